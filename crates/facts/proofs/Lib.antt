@@ -1,0 +1,5 @@
+pub mod Order
+pub mod Cells
+pub mod Mask
+pub mod Records
+pub mod Makes

@@ -1,0 +1,11 @@
+pub mod Each
+pub mod Lawful
+pub mod Rest
+pub mod Loops
+pub mod Keeps
+pub mod Grows
+pub mod Still
+pub mod Weights
+pub mod Filling
+pub mod Fixpoint
+pub mod Example

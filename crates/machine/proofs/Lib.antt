@@ -1,0 +1,7 @@
+pub mod Deliver
+pub mod Direct
+pub mod Fetching
+pub mod Retold
+pub mod Values
+pub mod InRange
+pub mod Keeps

@@ -1,0 +1,134 @@
+-- The machine's parts as the code holds them, put together to a state, and what the code's parts of a step yield.
+use mathlib.Core.List.{List, [], _∷_}
+use mathlib.Core.Path.{_≡_}
+use Prim.Native.Nat.{ℕ, _+_, _<_, _≤_}
+use lib.ListN.{length, getD}
+use Rattle.choice.specs.Choice.{pick, ask, asked}
+use Rattle.map.specs.Map.{mapLength}
+use Rattle.state.specs.declared.State.{State}
+use Rattle.state.specs.State.{stackPlaces}
+use Rattle.machine.specs.declared.Sequencer.{Sequencer}
+use Rattle.machine.specs.declared.Effect.{Effect}
+use Rattle.machine.specs.declared.Fetched.{Fetched}
+use Rattle.word.specs.declared.Word.{Word}
+use Rattle.word.specs.declared.Word.the-variants.{Move, Add, And, Xor, XecRegister, XecBank, NztRegister, NztBank, Call, Ret, XmitRegister, XmitBank, Jmp, Invalid}
+use Rattle.machine.specs.declared.Fetched.the-variants.{Valid, Invalid as None}
+use Rattle.machine.specs.Shape.{Target}
+use Rattle.machine.specs.Step.{Outcome, wordCount, resultOf, actState, targetTrace, mayWrite, mayChoose, cameToStop}
+
+-- the state of a machine that is not stopped, from its sequencer, values, latches and call stack
+abbrev pub whole : Sequencer → List ℕ → List ℕ → List ℕ → State
+whole q values latches returns =
+    record {
+      pc = q .pc;
+      flag = q .flag;
+      pending = q .pending;
+      values = values;
+      latches = latches;
+      depth = q .depth;
+      returns = returns;
+      stop = 0;
+    }
+
+-- the outcome of a step from what the code leaves
+abbrev pub outcome : Effect → List ℕ → List ℕ → List ℕ → Outcome
+outcome e values latches returns =
+    record {
+      state =
+          record {
+            pc = e .pc;
+            flag = e .flag;
+            pending = e .pending;
+            values = values;
+            latches = latches;
+            depth = e .depth;
+            returns = returns;
+            stop = e .stop;
+          };
+      trace = e .kind ∷ e .address ∷ e .written ∷ e .stop ∷ [];
+    }
+
+-- an act that has gone on to PC + 1
+abbrev pub actEffect : Sequencer → ℕ → ℕ → ℕ → Effect
+actEffect q kind address written =
+    record {
+      pc = q .pc + 1;
+      flag = 0;
+      pending = 0;
+      depth = q .depth;
+      kind = kind;
+      address = address;
+      written = written;
+      stop = 0;
+    }
+
+-- a word that has directed PC
+abbrev pub goEffect : ℕ → ℕ → Effect
+goEffect pc depth =
+    record {
+      pc = pc;
+      flag = 0;
+      pending = 0;
+      depth = depth;
+      kind = 0;
+      address = 0;
+      written = 0;
+      stop = 0;
+    }
+
+-- an XEC
+abbrev pub deferEffect : Sequencer → ℕ → Effect
+deferEffect q pending =
+    record {
+      pc = q .pc;
+      flag = 1;
+      pending = pending;
+      depth = q .depth;
+      kind = 0;
+      address = 0;
+      written = 0;
+      stop = 0;
+    }
+
+-- a page has 256 addresses or 32
+abbrev pub IsPage : ℕ → Type 0
+IsPage page = (page ≡ 256 → ⊥) → page ≡ 32
+
+-- a step that delivers the source x to a target: questions 4 and 5, then the change
+abbrev pub delivered : List ℕ → ℕ → ℕ → Target → State → Outcome
+delivered map op x target s =
+    asked (ask 24 (mayWrite map target (s .values)) ∷ ask 25 (mayChoose map target (resultOf op (getD (s .values) 0 0) x)) ∷ [])
+    (record { state = actState op x target s; trace = targetTrace target (actState op x target s) })
+    (cameToStop s)
+
+-- What a word needs to be executed: a map of its length, a PC inside an image of at most 8,192 words, a depth
+-- within the stack.
+pub record Ready (map : List ℕ) (q : Sequencer) : Type 0 where
+  pub long : length map ≡ mapLength
+  pub near : q .pc < 8192
+  pub shallow : q .depth ≤ stackPlaces
+
+-- a fetched word, told apart from an invalid one
+abbrev pub fetchedOf : Word → Fetched
+fetchedOf (Move s rl d) = Valid (Move s rl d)
+fetchedOf (Add s rl d) = Valid (Add s rl d)
+fetchedOf (And s rl d) = Valid (And s rl d)
+fetchedOf (Xor s rl d) = Valid (Xor s rl d)
+fetchedOf (XecRegister s i) = Valid (XecRegister s i)
+fetchedOf (XecBank s l i) = Valid (XecBank s l i)
+fetchedOf (NztRegister s i) = Valid (NztRegister s i)
+fetchedOf (NztBank s l i) = Valid (NztBank s l i)
+fetchedOf (Call i) = Valid (Call i)
+fetchedOf Ret = Valid Ret
+fetchedOf (XmitRegister d i) = Valid (XmitRegister d i)
+fetchedOf (XmitBank d l i) = Valid (XmitBank d l i)
+fetchedOf (Jmp a) = Valid (Jmp a)
+fetchedOf Invalid = None
+
+-- What a step needs: at most 8,192 words, a map of its length, and of a well-formed state that PC is near while an
+-- XEC is pending, and that the depth is within the stack.
+pub record Runs (image map : List ℕ) (q : Sequencer) : Type 0 where
+  pub words : wordCount image ≤ 8192
+  pub long : length map ≡ mapLength
+  pub near : q .flag ≡ 1 → q .pc < 8192
+  pub shallow : q .depth ≤ stackPlaces

@@ -1,0 +1,206 @@
+// Words that deliver a source to a target: MOVE, ADD, AND, XOR, XMIT.
+ghost use mathlib.Core.Path.{_≡_};
+ghost use mathlib.Core.List.{List, [], _∷_};
+ghost use Prim.Native.Nat.{ℕ, _<_};
+ghost use lib.ListN.{length, getD};
+ghost use Rattle.map.specs.Map.{mapLength};
+ghost use Rattle.machine.specs.Shape.{slotOf, sourceOf, targetOf, slot, latch, bankOf, positionOf, placesOf, actShape};
+ghost use Rattle.machine.specs.Step.{valueOf, resultOf, withOverflow, mayRead, wordStep};
+ghost use Rattle.machine.specs.Parts.{whole, outcome, actEffect, delivered, Ready};
+use crate::Effect;
+use crate::Sequencer;
+
+// The slot of a register number among the eleven values.
+pub fn slot_of(r: usize) -> usize
+    ensures { λ k. ⌜ (k ≡ slotOf r) × (k < 11) ⌝ }
+{
+    if r < 7 {
+        return r;
+    }
+    if r == 9 {
+        return 7;
+    }
+    if r == 8 {
+        return 8;
+    }
+    if r == 7 {
+        return 9;
+    }
+    10
+}
+
+fn wide(x: u8) -> usize
+    ensures { λ r. ⌜ (r ≡ x) × (r < 256) ⌝ }
+{
+    x as usize
+}
+
+// A step's byte of a bank.
+fn bus_byte(left: u8, right: u8, bank: usize) -> u8
+    requires { ⌜ bank < 2 ⌝ }
+    ensures { λ r. ⌜ r ≡ getD (left ∷ right ∷ []) bank 0 ⌝ }
+{
+    if bank == 0 { left } else { right }
+}
+
+// Where the source is a bank: is the bank's address readable?
+pub fn may_read(map: &[u8], values: &[u8; 11], s: usize) -> bool
+    requires { ⌜ length (now map) ≡ mapLength ⌝ }
+    ensures { λ r. ⌜ ((places l : ℕ) → r ≡ mayRead (now (map .entry)) (sourceOf s places l) (now (values .entry))) ⌝ }
+{
+    if s < 16 {
+        return true;
+    }
+    let bank = s / 8 % 2;
+    map::readable(map, bank, wide(values[9 + bank]))
+}
+
+// The source: a register rotated by places, or a bank's field of length l.
+pub fn operand(values: &[u8; 11], left: u8, right: u8, s: usize, places: usize, l: usize) -> u8
+    requires { ⌜ (places < 8) × (l < 8) ⌝ }
+    ensures { λ r. ⌜ r ≡ valueOf (sourceOf s places l) (now (values .entry)) (left ∷ right ∷ []) ⌝ }
+{
+    if s < 16 {
+        let k = slot_of(s);
+        return field::rotate(values[k], places);
+    }
+    field::field(bus_byte(left, right, s / 8 % 2), s % 8, l)
+}
+
+fn result(op: usize, aux: u8, x: u8) -> u8
+    ensures { λ r. ⌜ r ≡ resultOf op aux x ⌝ }
+{
+    if op == 0 {
+        return x;
+    }
+    if op == 1 {
+        return field::sum(aux, x);
+    }
+    if op == 2 {
+        return field::and(aux, x);
+    }
+    field::xor(aux, x)
+}
+
+// ADD alone sets OVF.
+fn set_overflow(op: usize, aux: u8, x: u8, values: &mut [u8; 11])
+    ensures { λ _. ⌜ now (values .exit) ≡ withOverflow op aux x (now (values .entry)) ⌝ }
+{
+    if op == 1 {
+        values[8] = field::carry(aux, x);
+    }
+}
+
+// An act that has gone on to PC + 1, with its trace record.
+fn went(q: Sequencer, kind: usize, address: usize, written: usize) -> Effect
+    requires { ⌜ q .pc < 8192 ⌝ }
+    ensures { λ r. ⌜ r ≡ actEffect q kind address written ⌝ }
+{
+    Effect {
+        pc: q.pc + 1,
+        flag: 0,
+        pending: 0,
+        depth: q.depth,
+        kind: kind,
+        address: address,
+        written: written,
+        stop: 0,
+    }
+}
+
+// To a register or a bus address, by its slot.
+fn to_slot(map: &[u8], op: usize, x: u8, k: usize, q: Sequencer, values: &mut [u8; 11]) -> Effect
+    requires { ⌜ Ready (now map) q × (k < 11) ⌝ }
+    ensures { λ r. ⌜ ((l s : List ℕ) → outcome r (now (values .exit)) l s ≡ delivered (now (map .entry)) op x (slot k) (whole q (now (values .entry)) l s)) ⌝ }
+{
+    let aux = values[0];
+    let y = result(op, aux, x);
+    if k < 9 {
+        set_overflow(op, aux, x, values);
+        values[k] = y;
+        return went(q, 0, 0, 0);
+    }
+    if !map::listed(map, k - 9, wide(y)) {
+        return crate::stop(q, 25);
+    }
+    set_overflow(op, aux, x, values);
+    values[k] = y;
+    went(q, k - 8, wide(values[k]), 0)
+}
+
+// To a bank: merged into its latch, which is then the byte written at its address.
+fn to_latch(
+    map: &[u8],
+    op: usize,
+    x: u8,
+    d: usize,
+    l: usize,
+    q: Sequencer,
+    values: &mut [u8; 11],
+    latches: &mut [u8; 2],
+) -> Effect
+    requires { ⌜ Ready (now map) q × (l < 8) ⌝ }
+    ensures { λ r. ⌜ ((s : List ℕ) → outcome r (now (values .exit)) (now (latches .exit)) s ≡ delivered (now (map .entry)) op x (latch (bankOf d) (positionOf d) l) (whole q (now (values .entry)) (now (latches .entry)) s)) ⌝ }
+{
+    let aux = values[0];
+    let bank = d / 8 % 2;
+    if !map::writable(map, bank, wide(values[9 + bank])) {
+        return crate::stop(q, 24);
+    }
+    let y = result(op, aux, x);
+    set_overflow(op, aux, x, values);
+    latches[bank] = field::merge(latches[bank], y, d % 8, l);
+    went(q, 3 + bank, wide(values[9 + bank]), wide(latches[bank]))
+}
+
+// Delivers the source x to the target d, of length l in a bank.
+pub fn deliver(
+    map: &[u8],
+    op: usize,
+    x: u8,
+    d: usize,
+    l: usize,
+    q: Sequencer,
+    values: &mut [u8; 11],
+    latches: &mut [u8; 2],
+) -> Effect
+    requires { ⌜ Ready (now map) q × (l < 8) ⌝ }
+    ensures { λ r. ⌜ ((s : List ℕ) → outcome r (now (values .exit)) (now (latches .exit)) s ≡ delivered (now (map .entry)) op x (targetOf d l) (whole q (now (values .entry)) (now (latches .entry)) s)) ⌝ }
+{
+    if d < 16 {
+        let k = slot_of(d);
+        return to_slot(map, op, x, k, q, values);
+    }
+    to_latch(map, op, x, d, l, q, values, latches)
+}
+
+// A register is rotated on its way to a register or a bus address, and not to a bank.
+fn places(rl: usize, d: usize) -> usize
+    requires { ⌜ rl < 8 ⌝ }
+    ensures { λ r. ⌜ (r ≡ placesOf rl d) × (r < 8) ⌝ }
+{
+    if d < 16 { rl } else { 0 }
+}
+
+// MOVE, ADD, AND, XOR: opcode 0 to 3.
+pub fn act(
+    map: &[u8],
+    left: u8,
+    right: u8,
+    op: usize,
+    s: usize,
+    rl: usize,
+    d: usize,
+    q: Sequencer,
+    values: &mut [u8; 11],
+    latches: &mut [u8; 2],
+) -> Effect
+    requires { ⌜ Ready (now map) q × (rl < 8) ⌝ }
+    ensures { λ r. ⌜ ((t : List ℕ) → outcome r (now (values .exit)) (now (latches .exit)) t ≡ wordStep (now (map .entry)) (actShape op s rl d) (left ∷ right ∷ []) (whole q (now (values .entry)) (now (latches .entry)) t)) ⌝ }
+{
+    if !may_read(map, values, s) {
+        return crate::stop(q, 23);
+    }
+    let x = operand(values, left, right, s, places(rl, d), rl);
+    deliver(map, op, x, d, rl, q, values, latches)
+}

@@ -1,0 +1,5 @@
+pub mod Examples
+pub mod Membership
+pub mod Ranges
+pub mod Wider
+pub mod TableLaws

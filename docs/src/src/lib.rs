@@ -1,0 +1,16 @@
+//! Reference for RIPTIDE-II panel programs, read from the papers alone.
+//!
+//! Numbers of registers are octal as in the manual; bit 0 is the most
+//! significant bit. Bank 0 is the left bank, bank 1 the right bank.
+
+pub mod bench;
+pub mod cases;
+pub mod digest;
+pub mod direct;
+pub mod machine;
+pub mod map;
+pub mod naive;
+pub mod programs;
+pub mod run;
+pub mod table;
+pub mod word;

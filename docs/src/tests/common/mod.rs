@@ -1,0 +1,33 @@
+//! Helpers that several tests share.
+#![allow(dead_code)]
+
+use riptide_reference::machine::{step, Image, State};
+use riptide_reference::map::Map;
+use riptide_reference::table::{admit, Admission};
+
+pub const ALL: [u8; 128] = [0xff; 128];
+
+/// One step of a word that stands at every address of an image of 8,192.
+pub fn one(word: u16, state: State, bus: [u8; 2]) -> (State, [u8; 4]) {
+    one_with(&ALL, word, state, bus)
+}
+
+pub fn one_with(map: &[u8], word: u16, mut state: State, bus: [u8; 2]) -> (State, [u8; 4]) {
+    let bytes = word.to_be_bytes().repeat(8192);
+    let (image, map) = (Image::new(&bytes).unwrap(), Map::new(map).unwrap());
+    let record = step(&image, &map, &mut state, bus).expect("not stopped");
+    (state, record)
+}
+
+/// The state after reset.
+pub fn fresh() -> State {
+    State::default()
+}
+
+/// Admission of words with a table of the right length.
+pub fn admit_words(words: &[u16], map: &[u8]) -> (Admission, Vec<u8>) {
+    let image = riptide_reference::programs::bytes_of(words);
+    let mut table = vec![0xa5; 144 * words.len()];
+    let answer = admit(&image, map, &mut table);
+    (answer, table)
+}
