@@ -1,0 +1,5 @@
+pub mod Written
+pub mod Going
+pub mod Door
+pub mod Laws
+pub mod Values

@@ -1,0 +1,29 @@
+-- `emulator::run_from` meets its contract. Assumes nothing.
+use mathlib.Core.Path.{ap, sym, subst, _∙_}
+use denote.Ref.{now}
+use Rattle.state.specs.declared.State.{State}
+use Rattle.emulator.specs.Run.{ranOver}
+use Rattle.emulator.specs.Parts.{laid, Accepted}
+use Rattle.emulator.proofs.Door.{running, finished}
+use borrow.Author.Needs.{needs}
+use Rattle.emulator.proofs.run_from.Statement.{statement}
+use Rattle.emulator.proofs.run_from.Tie as tie
+
+steps-requires : tie.Need-steps-requires
+steps-requires c κs =
+    let s = c .before .before .before .before .before .before .before .before .before .before .before .before in
+    subst (Accepted (now (s .args .image)) (now (s .args .map)) (now (s .args .recording)) (now (s .args .trace)))
+    (sym (running (s .args .s) (s .pre .1))) (s .pre .0)
+
+returns : tie.Need-returns
+returns c =
+    let s = c .before .before .before .before .before .before .before .before .before .before .before .before .before .before .before .before .before .before .before .before in
+    let o = c .before .before .before .before .before .before .before .steps in
+    let ran = ranOver (now (s .args .image)) (now (s .args .map)) (now (s .args .recording)) in
+    finished (o .result) _ _ _ _ _ (now (s .args .trace)) (ran (s .args .s))
+    (o .ensures ∙ ap (λ (x : State). laid (ran x) (now (s .args .trace))) (running (s .args .s) (s .pre .1)))
+    (c .before .before .store .ensures)
+
+pub run-from-spec : {M : Type 1} → statement M
+run-from-spec =
+    tie.close (tie.spec steps-requires (λ c κs. search needs) (λ c. search needs) (λ c. search needs) returns)

@@ -1,0 +1,11 @@
+pub mod Within
+pub mod Pairs
+pub mod Questions
+pub mod Cells
+pub mod Licensed
+pub mod Granted
+pub mod WordSafe
+pub mod StepSafe
+pub mod ResetSafe
+pub mod Witness
+pub mod Demand3

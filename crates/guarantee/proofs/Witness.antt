@@ -1,0 +1,73 @@
+-- The assumptions of the step's theorem can be met: a program that calls, executes a RET by XEC and then waits.
+use mathlib.Core.Path.{_≡_, refl, sym, subst}
+use mathlib.Core.Bool.{Bool, true, _&&_}
+use mathlib.Core.List.{List, [], _∷_}
+use Prim.Native.Nat.{ℕ, zero, suc, _<_, _*_}
+use native.Mathlib.Decide.{decLt}
+use native.Mathlib.Omega.{arith}
+use lib.Dec.{ltb, eqb}
+use lib.ListN.{getD, replicate, List·getD-eq-default}
+use borrow.Author.Tests.{ltb-true, eqb-true}
+use Rattle.choice.proofs.Laws.{and-first, and-second}
+use Rattle.field.specs.Field.{rotateRight}
+use Rattle.word.specs.Word.{decoded}
+use Rattle.machine.specs.Shape.{shapeOf, slotOf}
+use Rattle.machine.specs.Step.{wordCount}
+use Rattle.flow.specs.Flow.{Closed, allCovered}
+use Rattle.facts.specs.Facts.{allKnowNoMore}
+use Rattle.facts.specs.Record.{depths, resetCell, holdsCell, recordOf, maskOf, readCell, cellAt, putRecord, putCell}
+use Rattle.transfer.specs.Passes.{over, overDown, gives, wordsAt, some, wordPasses, allPasses, passesFrom, tableSpace, startTable}
+use Rattle.transfer.specs.Findings.{allBelow, findingAt, NoFinding}
+use Rattle.transfer.proofs.Membership.{same-or}
+
+-- a test at each place below n
+every : ℕ → (ℕ → Bool) → Bool
+every zero test = true
+every (suc n) test = test n && every n test
+
+every-at : (n : ℕ) (test : ℕ → Bool) → every n test ≡ true → (k : ℕ) → k < n → test k ≡ true
+unfolding every
+every-at zero test h k below = absurd (omega arith)
+every-at (suc n) test h k below =
+    same-or k n (λ e. subst (λ j. test j ≡ true) (sym e) (and-first (test n) (every n test) h))
+    (λ other. every-at n test (and-second (test n) (every n test) h) k (omega arith))
+
+-- 0: CALL 2. 1: JMP 1. 2: XEC R1 with I 3. 3: RET
+abbrev pub image : List ℕ
+image = 0xA7 ∷ 0x02 ∷ 0xE0 ∷ 0x01 ∷ 0x81 ∷ 0x03 ∷ 0xAF ∷ 0x00 ∷ []
+
+-- no address is listed
+abbrev pub map : List ℕ
+map = replicate 128 0
+
+-- cells (0, 0), (0, 1) and (1, 2) are reached with the facts of reset
+pub table : List ℕ
+table = putCell (putCell (startTable image) 6 resetCell) 1 resetCell
+
+all-passed : every (depths * wordCount image) (λ i. allCovered (tableSpace image) table (passesFrom image table i)) ≡ true
+unfolding every table allKnowNoMore holdsCell recordOf maskOf readCell cellAt putRecord over overDown gives wordsAt some wordPasses allPasses allCovered decoded shapeOf slotOf rotateRight
+all-passed = refl
+
+none-found : every (depths * wordCount image) (λ i. eqb (findingAt image map table i) 0) ≡ true
+unfolding every table allKnowNoMore holdsCell recordOf maskOf readCell cellAt putRecord over overDown gives wordsAt some wordPasses allPasses allBelow findingAt decoded shapeOf slotOf rotateRight
+none-found = refl
+
+pub witness-closed : Closed (tableSpace image) resetCell table
+unfolding table allKnowNoMore holdsCell recordOf maskOf readCell cellAt putRecord
+witness-closed = record { starts = refl; passed = every-at (depths * wordCount image) _ all-passed }
+
+pub witness-clean : NoFinding image map table
+witness-clean =
+    record { none = λ i h. eqb-true (findingAt image map table i) 0 (every-at (depths * wordCount image) _ none-found i (ltb-true i _ h)) }
+
+-- its bytes are bytes
+image-bytes : every 8 (λ k. ltb (getD image k 0) 256) ≡ true
+unfolding every
+image-bytes = refl
+
+pub witness-bytes : (k : ℕ) → getD image k 0 < 256
+witness-bytes k = by (decLt k 8)
+  where
+    by : Dec (k < 8) → getD image k 0 < 256
+    by (yes below) = ltb-true _ 256 (every-at 8 (λ j. ltb (getD image j 0) 256) image-bytes k below)
+    by (no past) = omega (arith, List·getD-eq-default image 0 {n = k} (omega arith))

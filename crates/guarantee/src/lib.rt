@@ -1,0 +1,1 @@
+// Definitions and the theorem alone: an admitted program runs without a stop.
