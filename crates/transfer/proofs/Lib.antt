@@ -3,3 +3,4 @@ pub mod Membership
 pub mod Ranges
 pub mod Wider
 pub mod TableLaws
+pub mod LeastTable
