@@ -1,6 +1,6 @@
 // The machine: one step. The values, the latches and the call stack are lent, the rest of the state is a struct of
 // numbers, so that a loop over steps keeps all of it in place.
-mod act;
+pub mod act;
 mod go;
 
 ghost use mathlib.Core.Path.{_≡_};

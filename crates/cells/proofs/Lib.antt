@@ -1,0 +1,4 @@
+pub mod Laws
+pub mod Order
+pub mod Joins
+pub mod Reading

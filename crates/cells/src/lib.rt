@@ -1,0 +1,234 @@
+// Cells of the table of facts, read from and joined into the lent bytes.
+pub mod acts;
+
+ghost use mathlib.Core.Path.{_≡_};
+ghost use mathlib.Core.Bool.{not};
+ghost use Prim.Native.Nat.{_+_, _*_, _/_, _%_, _^_, _≤_, _<_};
+ghost use lib.Dec.{eqb};
+ghost use lib.ListN.{length};
+ghost use Rattle.choice.specs.Choice.{pick};
+ghost use Rattle.facts.specs.Facts.{factCount, unknown, isKnown, knowsNoMore, allKnowNoMore, joinFact, joinFacts};
+ghost use Rattle.facts.specs.Record.{recordSize, factsFrom, readCell, cellAt, maskOf, valueByte, recordOf, putCell, FineCell, holdsCell, joinCell};
+ghost use Rattle.cells.specs.Cells.{Inside};
+use facts::Cell;
+
+// Which facts are known, low byte first.
+fn mask(low: u8, high: u8) -> u16
+    ensures { λ r. ⌜ r ≡ low + 256 * high ⌝ }
+{
+    low as u16 + 256 * (high as u16)
+}
+
+// Fact k of a record: its value where its bit of the mask is one.
+fn fact(mask: u16, k: usize, value: u8) -> u16
+    requires { ⌜ k < factCount ⌝ }
+    ensures { λ r. ⌜ r ≡ pick (eqb (mask / 2 ^ k % 2) 1) value unknown ⌝ }
+{
+    if (mask >> k) % 2 == 1 {
+        return value as u16;
+    }
+    256
+}
+
+fn load_facts(b: &[u8]) -> [u16; 11]
+    requires { ⌜ length (now b) ≡ recordSize ⌝ }
+    ensures { λ r. ⌜ r ≡ factsFrom (now (b .entry)) 0 factCount ⌝ }
+{
+    let m = mask(b[2], b[3]);
+    [
+        fact(m, 0, b[4]),
+        fact(m, 1, b[5]),
+        fact(m, 2, b[6]),
+        fact(m, 3, b[7]),
+        fact(m, 4, b[8]),
+        fact(m, 5, b[9]),
+        fact(m, 6, b[10]),
+        fact(m, 7, b[11]),
+        fact(m, 8, b[12]),
+        fact(m, 9, b[13]),
+        fact(m, 10, b[14]),
+    ]
+}
+
+// A record of 16 bytes.
+fn load_record(b: &[u8]) -> Cell
+    requires { ⌜ length (now b) ≡ recordSize ⌝ }
+    ensures { λ r. ⌜ r ≡ readCell (now (b .entry)) ⌝ }
+{
+    Cell {
+        reached: b[0] == 1,
+        facts: load_facts(b),
+    }
+}
+
+// Cell i of a table.
+pub fn load(table: &[u8], i: usize) -> Cell
+    requires { ⌜ recordSize * i + recordSize ≤ length (now table) ⌝ }
+    ensures { λ r. ⌜ r ≡ cellAt (now (table .entry)) i ⌝ }
+{
+    let a = 16 * i;
+    let e = a + 16;
+    load_record(&table[a..e])
+}
+
+// The mask of a fact and of those after it.
+fn more(f: u16, rest: u16) -> u16
+    requires { ⌜ rest < 1024 ⌝ }
+    ensures { λ r. ⌜ (r ≡ pick (isKnown f) 1 0 + 2 * rest) × (r ≤ 1 + 2 * rest) ⌝ }
+{
+    if f == 256 {
+        return 2 * rest;
+    }
+    1 + 2 * rest
+}
+
+fn mask_of(f: [u16; 11]) -> u16
+    ensures { λ r. ⌜ r ≡ maskOf f ⌝ }
+{
+    let high = more(f[8], more(f[9], more(f[10], 0)));
+    let middle = more(f[4], more(f[5], more(f[6], more(f[7], high))));
+    more(f[0], more(f[1], more(f[2], more(f[3], middle))))
+}
+
+// The byte of a value, 0 if unknown.
+fn value_byte(f: u16) -> u8
+    ensures { λ r. ⌜ (f ≤ unknown → r ≡ valueByte f) ⌝ }
+{
+    if f < 256 { f as u8 } else { 0 }
+}
+
+fn flag(reached: bool) -> u8
+    ensures { λ r. ⌜ r ≡ pick reached 1 0 ⌝ }
+{
+    if reached { 1 } else { 0 }
+}
+
+// A cell's record, without a finding.
+fn record_of(c: Cell) -> [u8; 16]
+    requires { ⌜ FineCell c ⌝ }
+    ensures { λ r. ⌜ r ≡ recordOf c 0 ⌝ }
+{
+    let f = c.facts;
+    let m = mask_of(f);
+    [
+        flag(c.reached),
+        0,
+        (m % 256) as u8,
+        (m / 256) as u8,
+        value_byte(f[0]),
+        value_byte(f[1]),
+        value_byte(f[2]),
+        value_byte(f[3]),
+        value_byte(f[4]),
+        value_byte(f[5]),
+        value_byte(f[6]),
+        value_byte(f[7]),
+        value_byte(f[8]),
+        value_byte(f[9]),
+        value_byte(f[10]),
+        0,
+    ]
+}
+
+// Puts cell i into a table.
+pub fn store(table: &mut [u8], i: usize, c: Cell)
+    requires { ⌜ (recordSize * i + recordSize ≤ length (now table)) × FineCell c ⌝ }
+    ensures { λ _. ⌜ now (table .exit) ≡ putCell (now (table .entry)) i c ⌝ }
+{
+    let b = record_of(c);
+    let a = 16 * i;
+    let e = a + 16;
+    bytes::copy(&b, &mut table[a..e]);
+}
+
+fn knows_no_more(f: u16, g: u16) -> bool
+    ensures { λ r. ⌜ r ≡ knowsNoMore f g ⌝ }
+{
+    (f == 256) | (f == g)
+}
+
+fn all_know_no_more(f: [u16; 11], g: [u16; 11]) -> bool
+    ensures { λ r. ⌜ r ≡ allKnowNoMore f g ⌝ }
+{
+    knows_no_more(f[0], g[0])
+        & knows_no_more(f[1], g[1])
+        & knows_no_more(f[2], g[2])
+        & knows_no_more(f[3], g[3])
+        & knows_no_more(f[4], g[4])
+        & knows_no_more(f[5], g[5])
+        & knows_no_more(f[6], g[6])
+        & knows_no_more(f[7], g[7])
+        & knows_no_more(f[8], g[8])
+        & knows_no_more(f[9], g[9])
+        & knows_no_more(f[10], g[10])
+}
+
+// Does cell c hold what d passes on?
+pub fn holds(c: Cell, d: Cell) -> bool
+    ensures { λ r. ⌜ r ≡ holdsCell c d ⌝ }
+{
+    if !d.reached {
+        return true;
+    }
+    if !c.reached {
+        return false;
+    }
+    let f = c.facts;
+    let g = d.facts;
+    all_know_no_more(f, g)
+}
+
+// Two differing values join to unknown.
+fn join_fact(f: u16, g: u16) -> u16
+    ensures { λ r. ⌜ r ≡ joinFact f g ⌝ }
+{
+    if f == g { f } else { 256 }
+}
+
+fn join_facts(f: [u16; 11], g: [u16; 11]) -> [u16; 11]
+    ensures { λ r. ⌜ r ≡ joinFacts f g ⌝ }
+{
+    [
+        join_fact(f[0], g[0]),
+        join_fact(f[1], g[1]),
+        join_fact(f[2], g[2]),
+        join_fact(f[3], g[3]),
+        join_fact(f[4], g[4]),
+        join_fact(f[5], g[5]),
+        join_fact(f[6], g[6]),
+        join_fact(f[7], g[7]),
+        join_fact(f[8], g[8]),
+        join_fact(f[9], g[9]),
+        join_fact(f[10], g[10]),
+    ]
+}
+
+pub fn joined(c: Cell, d: Cell) -> Cell
+    ensures { λ r. ⌜ r ≡ joinCell c d ⌝ }
+{
+    if !d.reached {
+        return c;
+    }
+    if !c.reached {
+        return d;
+    }
+    let f = c.facts;
+    let g = d.facts;
+    Cell {
+        reached: true,
+        facts: join_facts(f, g),
+    }
+}
+
+// Joins d into cell i of a table. Says whether the cell changed.
+pub fn join_into(table: &mut [u8], i: usize, d: Cell) -> bool
+    requires { ⌜ Inside (now table) i × FineCell d ⌝ }
+    ensures { λ r. ⌜ (now (table .exit) ≡ putCell (now (table .entry)) i (joinCell (cellAt (now (table .entry)) i) d)) × (r ≡ not (holdsCell (cellAt (now (table .entry)) i) d)) ⌝ }
+{
+    let c = load(table, i);
+    if holds(c, d) {
+        return false;
+    }
+    store(table, i, joined(c, d));
+    true
+}

@@ -1,0 +1,10 @@
+-- A count within the bytes.
+use borrow.Author.Needs.{needs}
+use native.Mathlib.Omega.{arith}
+use Rattle.io.proofs.Counting.{counts}
+use Rattle.check_runs.proofs.text.within.Statement.{statement}
+use Rattle.check_runs.proofs.text.within.Tie as tie
+
+pub within-spec : {M : Type 1} → statement M
+within-spec =
+    tie.close (tie.spec (λ c. counts _ _ (omega arith)) (λ c. counts _ _ (omega arith)))
