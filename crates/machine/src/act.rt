@@ -67,7 +67,8 @@ pub fn operand(values: &[u8; 11], left: u8, right: u8, s: usize, places: usize, 
     field::field(bus_byte(left, right, s / 8 % 2), s % 8, l)
 }
 
-fn result(op: usize, aux: u8, x: u8) -> u8
+// The source, or AUX with the source added, ANDed or XORed.
+pub fn result(op: usize, aux: u8, x: u8) -> u8
     ensures { λ r. ⌜ r ≡ resultOf op aux x ⌝ }
 {
     if op == 0 {
