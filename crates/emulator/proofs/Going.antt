@@ -113,10 +113,10 @@ module _ (image map recording start : List ℕ) (s₀ : State) where
   goes-on i s trace next o room g h running step sound write =
       record {
         within = omega arith;
-        same = ap length write ∙ written-length at 4 trace (o .trace) (sound .long) fits ∙ g .same;
+        same = ap length write ∙ written-length at recordLength trace (o .trace) (sound .long) fits ∙ g .same;
         rest =
-            ap₂ drop past write ∙ written-drop at 4 trace (o .trace) (sound .long) fits
-            ∙ sym (drop-drop 4 at trace) ∙ ap (drop 4) (g .rest) ∙ drop-drop 4 at start ∙ ap (λ (k : ℕ). drop k start) (sym past);
+            ap₂ drop past write ∙ written-drop at recordLength trace (o .trace) (sound .long) fits
+            ∙ sym (drop-drop recordLength at trace) ∙ ap (drop recordLength) (g .rest) ∙ drop-drop recordLength at start ∙ ap (λ (k : ℕ). drop k start) (sym past);
         sound = sound .state;
         runs =
             g .runs ∙ ap (further i (take at trace)) (ap (λ (l : List ℕ). ranOver image map l s) (pair-at recording i h)
@@ -124,7 +124,7 @@ module _ (image map recording start : List ℕ) (s₀ : State) where
             ∙ ap (λ (p : Outcome). after p (ranOver image map left (p .state))) (sym step))
             ∙ further-after i (take at trace) o (ranOver image map left (o .state))
             ∙ ap (λ (l : List ℕ). further (i + 1) l (ranOver image map left (o .state)))
-            (sym (ap₂ take past write ∙ written-take at 4 trace (o .trace) (sound .long) fits));
+            (sym (ap₂ take past write ∙ written-take at recordLength trace (o .trace) (sound .long) fits));
       }
     where
       at : ℕ
@@ -134,10 +134,10 @@ module _ (image map recording start : List ℕ) (s₀ : State) where
       left : List ℕ
       left = drop (pairLength * (i + 1)) recording
 
-      past : recordLength * (i + 1) ≡ at + 4
+      past : recordLength * (i + 1) ≡ at + recordLength
       past = omega arith
 
-      fits : at + 4 ≤ length trace
+      fits : at + recordLength ≤ length trace
       fits = omega (arith, g .same)
 
   -- there is room for the next record

@@ -42,6 +42,10 @@ module _ (image map : List ℕ) (Q : List ℕ → State → Ran → Type 0)
 
 -- ---- counts and trace records
 
+-- a record for each pair: "twice the recording's length"
+pub twice : (recording : List ℕ) → length recording % pairLength ≡ 0 → pairCount recording * recordLength ≡ 2 * length recording
+twice recording even = omega arith
+
 module _ (image map : List ℕ) where
   -- four bytes of trace for each step that is counted
   pub trace-length : (recording : List ℕ) (s : State)
@@ -126,7 +130,7 @@ run-sound image map recording s words bytes =
     run-keeps image map Sound
     (λ left right t hl hr h sound. step-sound image map (left ∷ right ∷ []) t words bytes (two-bytes hl hr) sound .state) recording s
 
--- whose bytes are let in by question 14, and load to it again
+-- whose bytes question 14 lets in
 pub sound-fits : (s : State) → Sound s → stateFits (stored s) ≡ true
 sound-fits s sound =
     fits (stored s) (stored-length s) (ap wellFormed (store-then-load s (sound .sized)) ∙ formed s (sound .formed))
