@@ -56,10 +56,10 @@ pub mask-eq : (f : List ℕ) {m0 m1 m2 m3 m4 m5 m6 m7 m8 m9 m10 : ℕ} → lengt
 unfolding maskOf
 mask-eq f l e0 e1 e2 e3 e4 e5 e6 e7 e8 e9 e10 = rw (e0, e1, e2, e3, e4, e5, e6, e7, e8, e9, e10) (ap maskOf (whole f factCount l))
 
-pub record-eq : (c : Cell) {flag m : ℕ} {vs : List ℕ} → FineCell c → flag ≡ pick (c .reached) 1 0 → m ≡ maskOf (c .facts)
-    → vs ≡ map valueByte (bytesFrom (c .facts) 0 factCount) → flag ∷ 0 ∷ m % 256 ∷ m / 256 ∷ (vs ++ (0 ∷ [])) ≡ recordOf c 0
+pub record-eq : (c : Cell) (finding : ℕ) {flag m : ℕ} {vs : List ℕ} → FineCell c → flag ≡ pick (c .reached) 1 0 → m ≡ maskOf (c .facts)
+    → vs ≡ map valueByte (bytesFrom (c .facts) 0 factCount) → flag ∷ finding ∷ m % 256 ∷ m / 256 ∷ (vs ++ (0 ∷ [])) ≡ recordOf c finding
 unfolding recordOf
-record-eq c {vs = vs} fine p q v =
+record-eq c finding {vs = vs} fine p q v =
     let w : vs ≡ map valueByte (c .facts) = v ∙ ap (map valueByte) (whole (c .facts) factCount (fine .facts)) in
     rw (p, q, w)
 

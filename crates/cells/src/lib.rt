@@ -8,7 +8,7 @@ ghost use lib.Dec.{eqb};
 ghost use lib.ListN.{length};
 ghost use Rattle.choice.specs.Choice.{pick};
 ghost use Rattle.facts.specs.Facts.{factCount, unknown, isKnown, knowsNoMore, allKnowNoMore, joinFact, joinFacts};
-ghost use Rattle.facts.specs.Record.{recordSize, factsFrom, readCell, cellAt, maskOf, valueByte, recordOf, putCell, FineCell, holdsCell, joinCell};
+ghost use Rattle.facts.specs.Record.{recordSize, factsFrom, readCell, cellAt, maskOf, valueByte, recordOf, putRecord, putCell, FineCell, holdsCell, joinCell};
 ghost use Rattle.cells.specs.Cells.{Inside};
 use facts::Cell;
 
@@ -103,16 +103,16 @@ fn flag(reached: bool) -> u8
     if reached { 1 } else { 0 }
 }
 
-// A cell's record, without a finding.
-fn record_of(c: Cell) -> [u8; 16]
+// A cell's record, with its finding.
+fn record_of(c: Cell, finding: u8) -> [u8; 16]
     requires { ⌜ FineCell c ⌝ }
-    ensures { λ r. ⌜ r ≡ recordOf c 0 ⌝ }
+    ensures { λ r. ⌜ r ≡ recordOf c finding ⌝ }
 {
     let f = c.facts;
     let m = mask_of(f);
     [
         flag(c.reached),
-        0,
+        finding,
         (m % 256) as u8,
         (m / 256) as u8,
         value_byte(f[0]),
@@ -130,12 +130,12 @@ fn record_of(c: Cell) -> [u8; 16]
     ]
 }
 
-// Puts cell i into a table.
-pub fn store(table: &mut [u8], i: usize, c: Cell)
+// Puts cell i with its finding into a table.
+pub fn store(table: &mut [u8], i: usize, c: Cell, finding: u8)
     requires { ⌜ (recordSize * i + recordSize ≤ length (now table)) × FineCell c ⌝ }
-    ensures { λ _. ⌜ now (table .exit) ≡ putCell (now (table .entry)) i c ⌝ }
+    ensures { λ _. ⌜ now (table .exit) ≡ putRecord (now (table .entry)) i (recordOf c finding) ⌝ }
 {
-    let b = record_of(c);
+    let b = record_of(c, finding);
     let a = 16 * i;
     let e = a + 16;
     bytes::copy(&b, &mut table[a..e]);
@@ -229,6 +229,6 @@ pub fn join_into(table: &mut [u8], i: usize, d: Cell) -> bool
     if holds(c, d) {
         return false;
     }
-    store(table, i, joined(c, d));
+    store(table, i, joined(c, d), 0);
     true
 }

@@ -1,7 +1,5 @@
 // Runs each line of standard input, the inputs of a run as docs/src/expect/runs.txt has them, and prints a line with
 // the answer, the state afterwards, and the digests of state and trace.
-mod text;
-
 ghost use mathlib.Core.Path.{_≡_};
 ghost use Prim.Native.Nat.{_≤_};
 ghost use lib.ListN.{length};
@@ -64,24 +62,24 @@ fn trace_buffer() -> [u8; 131072]
 fn case(s: &[u8], from: usize)
     requires { ⌜ from ≤ length (now s) ⌝ }
 {
-    let name = text::after(s, from, b' ');
-    let end = text::after(s, name, b' ');
+    let name = cases::after(s, from, b' ');
+    let end = cases::after(s, name, b' ');
     io::write_all(1, &s[from..end]);
     let mut image = io::large_buffer();
     let mut map = io::buffer();
     let mut state = io::buffer();
     let mut recording = io::large_buffer();
     let mut trace = trace_buffer();
-    let at1 = text::after(s, end, b'=');
-    let image_count = text::expand(s, at1, &mut image);
-    let at2 = text::after(s, at1, b'=');
-    let map_count = text::expand(s, at2, &mut map);
-    let at3 = text::after(s, at2, b'=');
-    let state_count = text::expand(s, at3, &mut state);
-    let at4 = text::after(s, at3, b'=');
-    let recording_count = text::expand(s, at4, &mut recording);
-    let at5 = text::after(s, at4, b'=');
-    let trace_count = text::within(text::number(s, at5), &trace);
+    let at1 = cases::after(s, end, b'=');
+    let image_count = cases::expand(s, at1, &mut image);
+    let at2 = cases::after(s, at1, b'=');
+    let map_count = cases::expand(s, at2, &mut map);
+    let at3 = cases::after(s, at2, b'=');
+    let state_count = cases::expand(s, at3, &mut state);
+    let at4 = cases::after(s, at3, b'=');
+    let recording_count = cases::expand(s, at4, &mut recording);
+    let at5 = cases::after(s, at4, b'=');
+    let trace_count = cases::within(cases::number(s, at5), &trace);
     report(
         &image[..image_count],
         &map[..map_count],
@@ -96,7 +94,7 @@ fn cases(s: &[u8]) {
     let mut at = 0;
     while at < s.len() {
         case(s, at);
-        at = text::after(s, at, b'\n');
+        at = cases::after(s, at, b'\n');
     }
 }
 

@@ -137,7 +137,7 @@ fn run_from(
 }
 
 // Is the image's length even, 2 to 16,384 bytes?
-fn image_fits(image: &[u8]) -> bool
+pub fn image_fits(image: &[u8]) -> bool
     ensures { λ r. ⌜ r ≡ imageFits (now (image .entry)) ⌝ }
 {
     (image.len() % 2 == 0) & ((2 <= image.len()) & (image.len() <= 16384))

@@ -176,7 +176,7 @@ pub fn deliver(
 }
 
 // A register is rotated on its way to a register or a bus address, and not to a bank.
-fn places(rl: usize, d: usize) -> usize
+pub fn places(rl: usize, d: usize) -> usize
     requires { ⌜ rl < 8 ⌝ }
     ensures { λ r. ⌜ (r ≡ placesOf rl d) × (r < 8) ⌝ }
 {

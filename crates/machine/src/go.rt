@@ -41,7 +41,7 @@ fn defer_to(q: Sequencer, pending: usize) -> Effect
 }
 
 // PC with x, kept to the page's width, in the place of its low bits.
-fn in_page(page: usize, pc: usize, x: usize) -> usize
+pub fn in_page(page: usize, pc: usize, x: usize) -> usize
     requires { ⌜ IsPage page × (pc < 8192) ⌝ }
     ensures { λ r. ⌜ r ≡ inPage page pc x ⌝ }
 {

@@ -1,7 +1,7 @@
 // The machine: one step. The values, the latches and the call stack are lent, the rest of the state is a struct of
 // numbers, so that a loop over steps keeps all of it in place.
 pub mod act;
-mod go;
+pub mod go;
 
 ghost use mathlib.Core.Path.{_≡_};
 ghost use Prim.Native.Nat.{ℕ, _+_, _*_, _<_};
@@ -118,7 +118,7 @@ fn narrow(x: usize) -> u8
 }
 
 // What stands at an address: a valid word, or none.
-enum Fetched {
+pub enum Fetched {
     Valid(Word),
     Invalid,
 }
@@ -129,11 +129,19 @@ fn join(high: u8, low: u8) -> u16
     high as u16 * 256 + low as u16
 }
 
-fn fetch(image: &[u8], at: usize) -> Fetched
+// The word at an address.
+pub fn word_at(image: &[u8], at: usize) -> Word
+    requires { ⌜ at < wordCount (now image) ⌝ }
+    ensures { λ r. ⌜ (r ≡ decoded (wordAt (now (image .entry)) at)) × InRange r ⌝ }
+{
+    word::decode(join(image[2 * at], image[2 * at + 1]))
+}
+
+pub fn fetch(image: &[u8], at: usize) -> Fetched
     requires { ⌜ at < wordCount (now image) ⌝ }
     ensures { λ r. ⌜ r ≡ fetchedOf (decoded (wordAt (now (image .entry)) at)) ⌝ }
 {
-    let word = word::decode(join(image[2 * at], image[2 * at + 1]));
+    let word = word_at(image, at);
     if let Word::Invalid = word {
         return Fetched::Invalid;
     }

@@ -21,7 +21,7 @@ returns c =
     let c1 = c2 .before in
     let start = c1 .before .before .before .before in
     let at = fact-bound (start .args .c .facts) (start .pre .facts) (start .pre .bounded) in
-    record-eq (start .args .c) (start .pre) (c1 .before .flag .ensures) (c1 .before .before .mask-of .ensures)
+    record-eq (start .args .c) (start .args .finding) (start .pre) (c1 .before .flag .ensures) (c1 .before .before .mask-of .ensures)
     (cons-eq (c1 .value-byte .ensures (at 0 (lit< tt))) (cons-eq (c2 .value-byte2 .ensures (at 1 (lit< tt))) (cons-eq (c3 .value-byte3 .ensures (at 2 (lit< tt)))
     (cons-eq (c4 .value-byte4 .ensures (at 3 (lit< tt))) (cons-eq (c5 .value-byte5 .ensures (at 4 (lit< tt))) (cons-eq (c6 .value-byte6 .ensures (at 5 (lit< tt)))
     (cons-eq (c7 .value-byte7 .ensures (at 6 (lit< tt))) (cons-eq (c8 .value-byte8 .ensures (at 7 (lit< tt))) (cons-eq (c9 .value-byte9 .ensures (at 8 (lit< tt)))

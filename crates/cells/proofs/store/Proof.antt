@@ -13,7 +13,7 @@ returns : tie.Need-returns
 returns c =
     let start = c .before .before .before .before .before .before .before in
     let e = c .before .before .before .before .before .record-of .ensures in
-    part-put (now (start .args .table)) (start .args .i) _ _ (start .pre .0) (ap length e ∙ record-length (start .args .c) 0 (start .pre .1)) (c .before .before .copy .ensures .1)
+    part-put (now (start .args .table)) (start .args .i) _ _ (start .pre .0) (ap length e ∙ record-length (start .args .c) (start .args .finding) (start .pre .1)) (c .before .before .copy .ensures .1)
     ∙ ap (putRecord (now (start .args .table)) (start .args .i)) e
 
 pub store-spec : {M : Type 1} → statement M

@@ -4,8 +4,8 @@ use native.Mathlib.Omega.{arith}
 use Prim.Native.Nat.{_-_}
 use mathlib.Core.Path.{_≡_}
 use lib.ListN.{length, length-set}
-use Rattle.check_runs.proofs.text.hex.Statement.{statement}
-use Rattle.check_runs.proofs.text.hex.Tie as tie
+use Rattle.cases.proofs.hex.Statement.{statement}
+use Rattle.cases.proofs.hex.Tie as tie
 
 abbrev Inv-loop : tie.InvT-loop
 Inv-loop s from out₀ at₀ n₀ out at n = length out ≡ length out₀

@@ -4,8 +4,8 @@ use native.Mathlib.Omega.{arith}
 use Prim.Native.Nat.{_<_}
 use mathlib.Core.Path.{_≡_}
 use lib.ListN.{length}
-use Rattle.check_runs.proofs.text.valid.Statement.{statement}
-use Rattle.check_runs.proofs.text.valid.Tie as tie
+use Rattle.cases.proofs.valid.Statement.{statement}
+use Rattle.cases.proofs.valid.Tie as tie
 
 abbrev Inv-loop : tie.InvT-loop
 Inv-loop seed out₀ x₀ at₀ left₀ out x at left = (length out ≡ length out₀) × (x < 4294967296)

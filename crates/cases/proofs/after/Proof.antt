@@ -3,8 +3,8 @@ use borrow.Author.Needs.{needs}
 use native.Mathlib.Omega.{arith}
 use Prim.Native.Nat.{_≤_, _-_}
 use lib.ListN.{length}
-use Rattle.check_runs.proofs.text.after.Statement.{statement}
-use Rattle.check_runs.proofs.text.after.Tie as tie
+use Rattle.cases.proofs.after.Statement.{statement}
+use Rattle.cases.proofs.after.Tie as tie
 
 abbrev Inv-loop : tie.InvT-loop
 Inv-loop s from mark at₀ at = (from ≤ at) × (at ≤ length s)

@@ -2,8 +2,8 @@
 use borrow.Author.Needs.{needs}
 use native.Mathlib.Omega.{arith}
 use Rattle.io.proofs.Counting.{counts}
-use Rattle.check_runs.proofs.text.within.Statement.{statement}
-use Rattle.check_runs.proofs.text.within.Tie as tie
+use Rattle.cases.proofs.within.Statement.{statement}
+use Rattle.cases.proofs.within.Tie as tie
 
 pub within-spec : {M : Type 1} → statement M
 within-spec =

@@ -2,8 +2,8 @@
 use borrow.Author.Needs.{needs}
 use native.Mathlib.Omega.{arith}
 use lib.ListN.{length-set}
-use Rattle.check_runs.proofs.text.put.Statement.{statement}
-use Rattle.check_runs.proofs.text.put.Tie as tie
+use Rattle.cases.proofs.put.Statement.{statement}
+use Rattle.cases.proofs.put.Tie as tie
 
 pub put-spec : {M : Type 1} → statement M
 put-spec =

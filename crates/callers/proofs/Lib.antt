@@ -1,0 +1,4 @@
+pub mod Points
+pub mod Words
+pub mod Executing
+pub mod Sites

@@ -1,0 +1,28 @@
+-- The place of a cell in the table, depth × N + address: inside the table, and its depth and address from it.
+use mathlib.Core.Path.{_≡_, sym, ap, _∙_}
+use Prim.Native.Nat.{ℕ, _+_, _*_, _/_, _%_, _≤_, _<_}
+use native.Mathlib.Nat.{mul-le-mul, le-refl, add-mul-mod-self-right, mul-add-div-right, div-eq-of-lt, mod-eq-of-lt}
+use native.Mathlib.Omega.{arith}
+
+module _ (n depth a : ℕ) (h : a < n) where
+  -- the cells of the depths up to this one
+  pub point-below : depth * n + a < (depth + 1) * n
+  point-below = omega arith
+
+  pub point-inside : depth < 9 → depth * n + a < 9 * n
+  point-inside l =
+      let most : (depth + 1) * n ≤ 9 * n = mul-le-mul (omega (arith, l)) (le-refl n) in
+      omega (arith, point-below, most)
+
+  pub point-small : depth < 9 → n ≤ 8192 → depth * n + a < 73728
+  point-small l m = omega (arith, point-inside l, m)
+
+  -- its record lies inside the table
+  pub point-room : depth < 9 → 16 * (depth * n + a) + 16 ≤ 16 * (9 * n)
+  point-room l = omega (arith, point-inside l)
+
+  pub point-depth : (depth * n + a) / n ≡ depth
+  point-depth = mul-add-div-right {m = n} (omega arith) depth a ∙ ap (λ q. depth + q) (div-eq-of-lt h) ∙ omega arith
+
+  pub point-address : (depth * n + a) % n ≡ a
+  point-address = ap (λ m. m % n) {x = depth * n + a} {y = a + depth * n} (omega arith) ∙ add-mul-mod-self-right a depth n ∙ mod-eq-of-lt h

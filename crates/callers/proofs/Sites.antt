@@ -1,0 +1,36 @@
+-- A call site: the cell as it is loaded, and the word there.
+use mathlib.Core.Path.{_≡_, refl, sym, ap, _∙_, subst}
+use mathlib.Core.Bool.{Bool, true, false, _&&_, not, true≢false, false≢true}
+use mathlib.Core.List.{List}
+use Prim.Native.Nat.{ℕ, _≤_, _<_}
+use lib.ListN.{getD}
+use Rattle.word.specs.declared.Word.{Word}
+use Rattle.word.specs.Word.{decoded}
+use Rattle.machine.specs.Shape.{shapeOf}
+use Rattle.machine.specs.Step.{wordCount, wordAt, shapeAt}
+use Rattle.facts.specs.declared.Cell.{Cell}
+use Rattle.facts.specs.Facts.{unknown}
+use Rattle.facts.specs.Record.{cellAt, FineCell}
+use Rattle.transfer.specs.Passes.{pointAt, isCall, some, wordsAt, isCallSite}
+use Rattle.callers.specs.Callers.{Held}
+use Rattle.callers.proofs.Points.{point-inside}
+
+module _ (image table : List ℕ) (depth a : ℕ) where
+  pub no-site : {c : Cell} → c ≡ cellAt table (pointAt (wordCount image) depth a) → not (c .reached) ≡ true → false ≡ isCallSite image table depth a
+  no-site {c} e h = rw (← e) (none (c .reached) (some isCall (wordsAt image a (c .facts) (shapeAt image a))) h)
+    where
+      none : (b d : Bool) → not b ≡ true → false ≡ b && d
+      none true d h = absurd (false≢true h)
+      none false d h = refl
+
+  pub site : {c : Cell} → c ≡ cellAt table (pointAt (wordCount image) depth a) → not (c .reached) ≡ false → {w : Word} → w ≡ decoded (wordAt image a)
+      → {r : Bool} → r ≡ some isCall (wordsAt image a (c .facts) (shapeOf w)) → r ≡ isCallSite image table depth a
+  site {c} e h {w} read {r} told = told ∙ ap (λ v. some isCall (wordsAt image a (c .facts) (shapeOf v))) read ∙ (rw (← e) (yes-site (c .reached) h))
+    where
+      yes-site : (b : Bool) {d : Bool} → not b ≡ false → d ≡ b && d
+      yes-site true h = refl
+      yes-site false h = absurd (true≢false h)
+
+  pub site-bounded : Held image table → depth < 9 → a < wordCount image → {c : Cell} → c ≡ cellAt table (pointAt (wordCount image) depth a)
+      → (k : ℕ) → getD (c .facts) k unknown ≤ unknown
+  site-bounded held l h e k = rw e (held .fine (pointAt (wordCount image) depth a) (point-inside (wordCount image) depth a h l) .bounded k)
