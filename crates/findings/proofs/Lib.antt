@@ -1,0 +1,4 @@
+pub mod Telling
+pub mod Asking
+pub mod Passing
+pub mod Words

@@ -1,0 +1,365 @@
+// The cell questions: the finding of a cell, the number of the first question that gets a no, or 0.
+ghost use mathlib.Core.Path.{_≡_};
+ghost use mathlib.Core.List.{List, [], _∷_, _++_};
+ghost use Prim.Native.Nat.{ℕ, _+_, _-_, _≤_, _<_};
+ghost use lib.Dec.{ltb};
+ghost use lib.ListN.{length, getD};
+ghost use Rattle.choice.specs.Choice.{ask};
+ghost use Rattle.word.specs.Word.{InRange};
+ghost use Rattle.map.specs.Map.{mapLength};
+ghost use Rattle.machine.specs.Shape.{sourceOf, targetOf, actShape, register, constant, go, branch, defer, call, return, act, shapeOf};
+ghost use Rattle.machine.specs.Step.{wordCount};
+ghost use Rattle.machine.specs.Parts.{IsPage};
+ghost use Rattle.facts.specs.Facts.{unknown, spanOf, resultFact, sourceFact};
+ghost use Rattle.cells.specs.Cells.{Bounded};
+ghost use Rattle.callers.specs.Callers.{spanIs, Within, Held};
+ghost use Rattle.transfer.specs.Passes.{isDefer, isCallSite, pointAt};
+ghost use Rattle.transfer.specs.Findings.{readQuestions, targetQuestions, allBelow, controlQuestions, wordFindings, executedFindings, deferFindings, findingAt};
+ghost use Rattle.findings.specs.Findings.{Tells};
+use machine::Fetched;
+use word::Word;
+
+fn wide(x: u16) -> usize
+    ensures { λ r. ⌜ r ≡ x ⌝ }
+{
+    x as usize
+}
+
+// Question 2, where the source s is a bank.
+fn read_finding(map: &[u8], facts: [u16; 11], s: usize) -> u8
+    requires { ⌜ (length (now map) ≡ mapLength) × Bounded facts ⌝ }
+    ensures { λ r. ⌜ ((places l : ℕ) → Tells r (readQuestions (now (map .entry)) (sourceOf s places l) facts)) ⌝ }
+{
+    if s < 16 {
+        return 0;
+    }
+    let bank = s / 8 % 2;
+    let a = facts[9 + bank];
+    if a == 256 {
+        return 28;
+    }
+    if !map::readable(map, bank, wide(a)) {
+        return 23;
+    }
+    0
+}
+
+// Questions 3 and 4: the result has the fact y, the target is d.
+fn target_finding(map: &[u8], facts: [u16; 11], d: usize, y: u16) -> u8
+    requires { ⌜ (length (now map) ≡ mapLength) × Bounded facts × (y ≤ unknown) ⌝ }
+    ensures { λ r. ⌜ ((l : ℕ) → Tells r (targetQuestions (now (map .entry)) (targetOf d l) y facts)) ⌝ }
+{
+    if d < 16 {
+        let k = machine::act::slot_of(d);
+        if k < 9 {
+            return 0;
+        }
+        if y == 256 {
+            return 28;
+        }
+        if !map::listed(map, k - 9, wide(y)) {
+            return 25;
+        }
+        return 0;
+    }
+    let bank = d / 8 % 2;
+    let a = facts[9 + bank];
+    if a == 256 {
+        return 28;
+    }
+    if !map::writable(map, bank, wide(a)) {
+        return 24;
+    }
+    0
+}
+
+// Question 7, where one next PC is asked.
+fn next_finding(image: &[u8], a: usize) -> u8
+    ensures { λ r. ⌜ Tells r (ask 21 (ltb a (wordCount (now (image .entry)))) ∷ []) ⌝ }
+{
+    if a < image.len() / 2 { 0 } else { 21 }
+}
+
+// Questions 3, 4 and 7 of a word that delivers a source with the fact x to the target d.
+fn deliver_finding(
+    image: &[u8],
+    map: &[u8],
+    pc: usize,
+    facts: [u16; 11],
+    op: usize,
+    x: u16,
+    d: usize,
+) -> u8
+    requires { ⌜ Within (now image) pc × (length (now map) ≡ mapLength) × Bounded facts × (x ≤ unknown) ⌝ }
+    ensures { λ r. ⌜ ((l : ℕ) → Tells r (targetQuestions (now (map .entry)) (targetOf d l) (resultFact op (getD facts 0 unknown) x) facts ++ (ask 21 (ltb (pc + 1) (wordCount (now (image .entry)))) ∷ []))) ⌝ }
+{
+    let y = cells::acts::result_fact(op, facts[0], x);
+    let f = target_finding(map, facts, d, y);
+    if f != 0 {
+        return f;
+    }
+    next_finding(image, pc + 1)
+}
+
+// MOVE, ADD, AND, XOR: opcode 0 to 3.
+fn act_finding(
+    image: &[u8],
+    map: &[u8],
+    pc: usize,
+    facts: [u16; 11],
+    op: usize,
+    s: usize,
+    rl: usize,
+    d: usize,
+) -> u8
+    requires { ⌜ Within (now image) pc × (length (now map) ≡ mapLength) × Bounded facts × (rl < 8) ⌝ }
+    ensures { λ r. ⌜ ((table : List ℕ) (depth : ℕ) → Tells r (wordFindings (now (image .entry)) (now (map .entry)) table depth pc facts (actShape op s rl d))) ⌝ }
+{
+    let f = read_finding(map, facts, s);
+    if f != 0 {
+        return f;
+    }
+    let x = cells::acts::fact_of(facts, s, machine::act::places(rl, d));
+    deliver_finding(image, map, pc, facts, op, x, d)
+}
+
+// NZT of the source s, or of its field of length l where it is a bank.
+fn branch_finding(
+    image: &[u8],
+    map: &[u8],
+    pc: usize,
+    facts: [u16; 11],
+    s: usize,
+    l: usize,
+    page: usize,
+    i: usize,
+) -> u8
+    requires { ⌜ Within (now image) pc × (length (now map) ≡ mapLength) × Bounded facts × (l < 8) × IsPage page ⌝ }
+    ensures { λ r. ⌜ ((table : List ℕ) (depth : ℕ) → Tells r (wordFindings (now (image .entry)) (now (map .entry)) table depth pc facts (go (sourceOf s 0 l) (branch page i)))) ⌝ }
+{
+    let f = read_finding(map, facts, s);
+    if f != 0 {
+        return f;
+    }
+    let words = image.len() / 2;
+    let v = callers::values_of(facts, s, l);
+    let on = (v.low != 0) | (pc + 1 < words);
+    let off = (v.low + v.count < 2) | (machine::go::in_page(page, pc, i) < words);
+    if on & off { 0 } else { 21 }
+}
+
+// CALL.
+fn call_finding(image: &[u8], depth: usize, pc: usize, facts: [u16; 11], i: usize) -> u8
+    requires { ⌜ Within (now image) pc × Bounded facts × (i < 256) ⌝ }
+    ensures { λ r. ⌜ ((map table : List ℕ) → Tells r (wordFindings (now (image .entry)) map table depth pc facts (go (register 0 0) (call i)))) ⌝ }
+{
+    if 8 <= depth {
+        return 26;
+    }
+    let v = callers::values_of(facts, 0, 0);
+    if v.count != 1 {
+        return 28;
+    }
+    let words = image.len() / 2;
+    if (v.low * 256 + i < words) & (pc + 1 < words) {
+        0
+    } else {
+        21
+    }
+}
+
+// RET: back says that the address after every call site at the depth below is inside the code.
+fn return_finding(depth: usize, back: bool) -> u8
+    ensures { λ r. ⌜ ((image map table facts : List ℕ) (pc : ℕ) → back ≡ allBelow (wordCount image) (wordCount image) (isCallSite image table (depth - 1)) → Tells r (wordFindings image map table depth pc facts (go (constant 0) return))) ⌝ }
+{
+    if depth == 0 {
+        return 27;
+    }
+    if back { 0 } else { 21 }
+}
+
+// Questions 1 to 7 of a word that is executed at pc.
+fn word_finding(
+    image: &[u8],
+    map: &[u8],
+    depth: usize,
+    pc: usize,
+    facts: [u16; 11],
+    back: bool,
+    word: Word,
+) -> u8
+    requires { ⌜ Within (now image) pc × (length (now map) ≡ mapLength) × Bounded facts × InRange word ⌝ }
+    ensures { λ r. ⌜ ((table : List ℕ) → back ≡ allBelow (wordCount (now (image .entry))) (wordCount (now (image .entry))) (isCallSite (now (image .entry)) table (depth - 1)) → Tells r (wordFindings (now (image .entry)) (now (map .entry)) table depth pc facts (shapeOf word))) ⌝ }
+{
+    match word {
+        Word::Move { s, rl, d } => {
+            return act_finding(image, map, pc, facts, 0, s, rl, d);
+        }
+        Word::Add { s, rl, d } => {
+            return act_finding(image, map, pc, facts, 1, s, rl, d);
+        }
+        Word::And { s, rl, d } => {
+            return act_finding(image, map, pc, facts, 2, s, rl, d);
+        }
+        Word::Xor { s, rl, d } => {
+            return act_finding(image, map, pc, facts, 3, s, rl, d);
+        }
+        Word::XecRegister { s, i } => {
+            return read_finding(map, facts, s);
+        }
+        Word::XecBank { s, l, i } => {
+            return read_finding(map, facts, s);
+        }
+        Word::NztRegister { s, i } => {
+            return branch_finding(image, map, pc, facts, s, 0, 256, i);
+        }
+        Word::NztBank { s, l, i } => {
+            return branch_finding(image, map, pc, facts, s, l, 32, i);
+        }
+        Word::Call { i } => {
+            return call_finding(image, depth, pc, facts, i);
+        }
+        Word::Ret => {
+            return return_finding(depth, back);
+        }
+        Word::XmitRegister { d, i } => {
+            return deliver_finding(image, map, pc, facts, 0, i as u16, d);
+        }
+        Word::XmitBank { d, l, i } => {
+            return deliver_finding(image, map, pc, facts, 0, i as u16, d);
+        }
+        Word::Jmp { a } => {
+            return next_finding(image, a);
+        }
+        Word::Invalid => {
+            return 22;
+        }
+    }
+}
+
+fn is_xec(word: Word) -> bool
+    ensures { λ r. ⌜ r ≡ isDefer (shapeOf word) ⌝ }
+{
+    if let Word::XecRegister { s, i } = word {
+        return true;
+    }
+    if let Word::XecBank { s, l, i } = word {
+        return true;
+    }
+    false
+}
+
+// Question 8 for one address that an XEC at pc may give.
+fn executed_finding(
+    image: &[u8],
+    map: &[u8],
+    depth: usize,
+    pc: usize,
+    facts: [u16; 11],
+    back: bool,
+    a: usize,
+) -> u8
+    requires { ⌜ Within (now image) pc × (length (now map) ≡ mapLength) × Bounded facts ⌝ }
+    ensures { λ r. ⌜ ((table : List ℕ) → back ≡ allBelow (wordCount (now (image .entry))) (wordCount (now (image .entry))) (isCallSite (now (image .entry)) table (depth - 1)) → Tells r (executedFindings (now (image .entry)) (now (map .entry)) table depth pc facts a)) ⌝ }
+{
+    if image.len() / 2 <= a {
+        return 21;
+    }
+    let Fetched::Valid(word) = machine::fetch(image, a) else {
+        return 22;
+    };
+    if is_xec(word) {
+        return 29;
+    }
+    word_finding(image, map, depth, pc, facts, back, word)
+}
+
+// Question 8 of an XEC of the source s, or of its field of length l where it is a bank.
+fn xec_finding(
+    image: &[u8],
+    map: &[u8],
+    depth: usize,
+    pc: usize,
+    facts: [u16; 11],
+    back: bool,
+    s: usize,
+    l: usize,
+    page: usize,
+    i: usize,
+) -> u8
+    requires { ⌜ Within (now image) pc × (length (now map) ≡ mapLength) × Bounded facts × (l < 8) × IsPage page × (i < 256) ⌝ }
+    ensures { λ r. ⌜ ((table : List ℕ) → back ≡ allBelow (wordCount (now (image .entry))) (wordCount (now (image .entry))) (isCallSite (now (image .entry)) table (depth - 1)) → Tells r (deferFindings (now (image .entry)) (now (map .entry)) table depth pc facts (go (sourceOf s 0 l) (defer page i)))) ⌝ }
+{
+    let v = callers::values_of(facts, s, l);
+    let mut k = 0;
+    while k < page {
+        if callers::gives(page, i, v, k) {
+            let a = machine::go::in_page(page, pc, k);
+            let f = executed_finding(image, map, depth, pc, facts, back, a);
+            if f != 0 {
+                return f;
+            }
+        }
+        k += 1;
+    }
+    0
+}
+
+// Question 8 of a word, where it is an XEC.
+fn defer_finding(
+    image: &[u8],
+    map: &[u8],
+    depth: usize,
+    pc: usize,
+    facts: [u16; 11],
+    back: bool,
+    word: Word,
+) -> u8
+    requires { ⌜ Within (now image) pc × (length (now map) ≡ mapLength) × Bounded facts × InRange word ⌝ }
+    ensures { λ r. ⌜ ((table : List ℕ) → back ≡ allBelow (wordCount (now (image .entry))) (wordCount (now (image .entry))) (isCallSite (now (image .entry)) table (depth - 1)) → Tells r (deferFindings (now (image .entry)) (now (map .entry)) table depth pc facts (shapeOf word))) ⌝ }
+{
+    if let Word::XecRegister { s, i } = word {
+        return xec_finding(image, map, depth, pc, facts, back, s, 0, 256, i);
+    }
+    if let Word::XecBank { s, l, i } = word {
+        return xec_finding(image, map, depth, pc, facts, back, s, l, 32, i);
+    }
+    0
+}
+
+// Is the address after every call site at a depth inside the code? Of the addresses below N only the last has none
+// inside the code after it.
+fn returns_inside(image: &[u8], table: &[u8], depth: usize) -> bool
+    requires { ⌜ Held (now image) (now table) × (depth < 9) × (0 < wordCount (now image)) ⌝ }
+    ensures { λ r. ⌜ r ≡ allBelow (wordCount (now (image .entry))) (wordCount (now (image .entry))) (isCallSite (now (image .entry)) (now (table .entry)) depth) ⌝ }
+{
+    !callers::is_call_site(image, table, depth, image.len() / 2 - 1)
+}
+
+// The depth that a RET goes back to; 0 has none below it.
+fn below(depth: usize) -> usize
+    ensures { λ r. ⌜ r ≡ depth - 1 ⌝ }
+{
+    if depth == 0 { 0 } else { depth - 1 }
+}
+
+// The finding of a cell.
+pub fn cell_finding(image: &[u8], map: &[u8], table: &[u8], depth: usize, pc: usize) -> u8
+    requires { ⌜ Held (now image) (now table) × (length (now map) ≡ mapLength) × (depth < 9) × (pc < wordCount (now image)) ⌝ }
+    ensures { λ r. ⌜ r ≡ findingAt (now (image .entry)) (now (map .entry)) (now (table .entry)) (pointAt (wordCount (now (image .entry))) depth pc) ⌝ }
+{
+    let c = cells::load(table, depth * (image.len() / 2) + pc);
+    if !c.reached {
+        return 0;
+    }
+    let facts = c.facts;
+    let Fetched::Valid(word) = machine::fetch(image, pc) else {
+        return 22;
+    };
+    let back = returns_inside(image, table, below(depth));
+    let f = word_finding(image, map, depth, pc, facts, back, word);
+    if f != 0 {
+        return f;
+    }
+    defer_finding(image, map, depth, pc, facts, back, word)
+}
