@@ -4,3 +4,4 @@ pub mod Ranges
 pub mod Wider
 pub mod TableLaws
 pub mod LeastTable
+pub mod Numbers
