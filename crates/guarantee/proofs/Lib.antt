@@ -9,3 +9,4 @@ pub mod StepSafe
 pub mod ResetSafe
 pub mod Witness
 pub mod Demand3
+pub mod Admitted

@@ -12,6 +12,8 @@ use Rattle.machine.specs.Step.{stepQuestions, stepped}
 use Rattle.emulator.specs.declared.RunAnswer.the-variants.{Refused, Ended}
 use Rattle.emulator.specs.Run.{pairCount, imageFits, recordingFits, traceFits, runResult}
 use Rattle.transfer.specs.Findings.{NoFinding}
+use Rattle.admission.specs.declared.AdmitAnswer.the-variants.{Admitted}
+use Rattle.admission.specs.Admission.{admitResult}
 use Rattle.guarantee.specs.Safe.{Inside}
 
 abbrev pub Bytes : List ℕ → Type 0
@@ -70,3 +72,10 @@ abbrev pub Demand : List ℕ → List ℕ → List ℕ → Type 0
 Demand image map table =
     Bytes image → imageFits image ≡ true → length map ≡ mapLength → NoFinding image map table → (jobs : List Job)
     → Flawless image map table resetBytes jobs
+
+-- The same in the words of the three calls: what `admit` answers admitted, from whatever bytes the table held, runs
+-- flawlessly by `run` from what `reset` makes, within the facts of the table as `admit` leaves it.
+abbrev pub AdmittedRuns : List ℕ → List ℕ → List ℕ → Type 0
+AdmittedRuns image map table =
+    Bytes image → admitResult image map table .answer ≡ Admitted → (jobs : List Job)
+    → Flawless image map (admitResult image map table .table) resetBytes jobs

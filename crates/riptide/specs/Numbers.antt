@@ -10,6 +10,8 @@ use Rattle.word.specs.declared.Encoding.the-variants.{Bits, Refused as NotWritt
 use Rattle.word.specs.Word.{isBank}
 use Rattle.map.specs.declared.Counts.{Counts}
 use Rattle.map.specs.declared.Counts.the-variants.{Sets, Refused as NotCounted}
+use Rattle.admission.specs.declared.AdmitAnswer.{AdmitAnswer}
+use Rattle.admission.specs.declared.AdmitAnswer.the-variants.{Refused as NotAdmitted, Admitted, Found}
 use Rattle.emulator.specs.declared.RunAnswer.{RunAnswer}
 use Rattle.emulator.specs.declared.RunAnswer.the-variants.{Refused, Ended}
 
@@ -71,6 +73,15 @@ setsNumber a b c d = a * 256 + b * 1048576 + c * 4294967296 + d * 17592186044416
 abbrev pub countNumber : Counts → ℕ
 countNumber (Sets a b c d) = setsNumber a b c d
 countNumber NotCounted = 12
+
+-- riptide_admit: number + depth × 256 + address × 65,536, the number being 0 for admitted, the refusal or the finding
+abbrev pub foundNumber : ℕ → ℕ → ℕ → ℕ
+foundNumber number depth address = number + depth * 256 + address * 65536
+
+abbrev pub admitNumber : AdmitAnswer → ℕ
+admitNumber (NotAdmitted number) = number
+admitNumber Admitted = 0
+admitNumber (Found number depth address) = foundNumber number depth address
 
 -- riptide_run: count × 256 + number, the number being the stop number or 0, or with count 0 the refusal. Both are kept to
 -- their places, 56 and 8 bits, which every recording of fewer than 2^56 pairs and every stop number fits.

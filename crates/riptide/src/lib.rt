@@ -5,7 +5,9 @@ ghost use Rattle.word.specs.Word.{decoded, encoded, InRange};
 ghost use Rattle.map.specs.Map.{counted};
 ghost use Rattle.state.specs.State.{resetNumberOf, resetState};
 ghost use Rattle.emulator.specs.Run.{runResult};
-ghost use Rattle.riptide.specs.Numbers.{fieldsNumber, readNumber, xecFrom, nztFrom, xmitFrom, wordFrom, writeNumber, setsNumber, countNumber, runNumber};
+ghost use Rattle.admission.specs.Admission.{admitResult};
+ghost use Rattle.riptide.specs.Numbers.{fieldsNumber, readNumber, xecFrom, nztFrom, xmitFrom, wordFrom, writeNumber, setsNumber, countNumber, foundNumber, admitNumber, runNumber};
+use admission::AdmitAnswer;
 use emulator::RunAnswer;
 use map::Counts;
 use state::ResetAnswer;
@@ -179,6 +181,36 @@ pub extern "C" fn riptide_reset(state: &mut [u8]) -> u64
         }
         ResetAnswer::Refused => {
             return 14;
+        }
+    }
+}
+
+// The finding, its depth and its address, each at its place of a number.
+fn found(number: usize, depth: usize, address: usize) -> u64
+    requires { ⌜ (number < 256) × (depth < 256) × (address < 8192) ⌝ }
+    ensures { λ r. ⌜ r ≡ foundNumber number depth address ⌝ }
+{
+    number as u64 + depth as u64 * 256 + address as u64 * 65536
+}
+
+// number + depth × 256 + address × 65,536: 0 for admitted, the refusal 11, 12 or 13, or the finding.
+#[no_mangle]
+pub extern "C" fn riptide_admit(image: &[u8], map: &[u8], table: &mut [u8]) -> u64
+    ensures { λ r. ⌜ (r ≡ admitNumber (admitResult (now (image .entry)) (now (map .entry)) (now (table .entry)) .answer)) × (now (table .exit) ≡ admitResult (now (image .entry)) (now (map .entry)) (now (table .entry)) .table) ⌝ }
+{
+    match admission::admit(image, map, table) {
+        AdmitAnswer::Refused { number } => {
+            return number as u64;
+        }
+        AdmitAnswer::Admitted => {
+            return 0;
+        }
+        AdmitAnswer::Found {
+            number,
+            depth,
+            address,
+        } => {
+            return found(number, depth, address);
         }
     }
 }

@@ -1,10 +1,13 @@
-//! The library against the independent reference: random images, maps, states and recordings, valid and damaged.
+//! The library against the independent reference: random images, maps, states, recordings and tables, valid and damaged.
 //! `RIPTIDE_CASES` sets how many cases are run (default 20,000).
 
-use riptide::{reset, run, RunAnswer};
+use riptide::{admit, count_sets, read_word, reset, run, table_length, write_word, AdmitAnswer, Fields, RunAnswer};
 use riptide_reference::digest::Random;
 use riptide_reference::programs::{bytes_of, damage, random_map, random_program, random_state, random_words};
 use riptide_reference::run as reference;
+use riptide_reference::table::{admit as reference_admit, Verdict};
+use riptide_reference::word::{decode, encode, is_bank, Word};
+use riptide_reference::{map as reference_map, programs};
 
 fn cases() -> usize {
     std::env::var("RIPTIDE_CASES").ok().and_then(|n| n.parse().ok()).unwrap_or(20_000)
@@ -72,6 +75,134 @@ fn equal_to_the_reference() {
         }
     }
     println!("{} cases, {stopped} stopped, {refused} refused", cases());
+}
+
+fn expected_admission(verdict: Verdict) -> AdmitAnswer {
+    match verdict {
+        Verdict::Refused(number) => AdmitAnswer::Refused(number),
+        Verdict::Admitted => AdmitAnswer::Admitted,
+        Verdict::Finding { number, depth, address } => {
+            AdmitAnswer::Found { number, depth: depth as u8, address: address as u16 }
+        }
+    }
+}
+
+#[test]
+fn admission_equal_to_the_reference() {
+    let mut random = Random(0xad417);
+    let (mut admitted, mut found, mut refused) = (0, [0; 30], 0);
+    let cases = cases() / 4;
+    for case in 0..cases {
+        let mut image = match random.below(8) {
+            0 => bytes_of(&random_words(&mut random, 300, 0)),
+            1 => bytes_of(&programs::nested(random.below(9), &random_words(&mut random, 6, 0))),
+            _ => image(&mut random),
+        };
+        let mut map = if random.chance(50) { random_map(&mut random).to_vec() } else { vec![255; 128] };
+        let mut table = random_bytes(&mut random, table_length(&image));
+        if random.chance(10) {
+            match random.below(3) {
+                0 => image.truncate(random.below(image.len() + 1)),
+                1 => map.truncate(random.below(129)),
+                _ => table.truncate(random.below(table.len() + 1)),
+            }
+        }
+        let mut table2 = table.clone();
+        let ours = admit(&image, &map, &mut table);
+        let theirs = expected_admission(reference_admit(&image, &map, &mut table2).verdict);
+        assert_eq!(ours, theirs, "case {case}");
+        assert_eq!(table, table2, "table of case {case}");
+        match ours {
+            AdmitAnswer::Refused(_) => refused += 1,
+            AdmitAnswer::Admitted => admitted += 1,
+            AdmitAnswer::Found { number, .. } => found[number as usize] += 1,
+        }
+    }
+    println!("{cases} cases, {admitted} admitted, {refused} refused, findings 21-29: {:?}", &found[21..]);
+}
+
+/// A word's case as the library's opcode and fields.
+fn fields_of(word: Word) -> Option<Fields> {
+    let (opcode, fields) = match word {
+        Word::Move { s, rl, d } => (0, [s, rl, d]),
+        Word::Add { s, rl, d } => (1, [s, rl, d]),
+        Word::And { s, rl, d } => (2, [s, rl, d]),
+        Word::Xor { s, rl, d } => (3, [s, rl, d]),
+        Word::XecRegister { s, i } => (4, [s, i, 0]),
+        Word::XecBank { s, l, i } => (4, [s, l, i]),
+        Word::NztRegister { s, i } => (5, [s, i, 0]),
+        Word::NztBank { s, l, i } => (5, [s, l, i]),
+        Word::Call { i } => (5, [7, i, 0]),
+        Word::Ret => (5, [15, 0, 0]),
+        Word::XmitRegister { d, i } => (6, [d, i, 0]),
+        Word::XmitBank { d, l, i } => (6, [d, l, i]),
+        Word::Jmp { a } => (7, [a, 0, 0]),
+        Word::Invalid => return None,
+    };
+    Some(Fields { opcode, fields })
+}
+
+#[test]
+fn every_word_read_and_written() {
+    let mut valid = 0;
+    for word in 0..=65535 {
+        let read = read_word(word);
+        assert_eq!(read, fields_of(decode(word)), "word {word:04x}");
+        if let Some(fields) = read {
+            valid += 1;
+            assert_eq!(write_word(fields), Some(word), "word {word:04x}");
+        }
+    }
+    assert_eq!(valid, 47_169);
+}
+
+/// The word of an opcode and fields by the reference, a field that it does not have being 0.
+fn written([op, a, b, c]: [u16; 4]) -> Option<u16> {
+    let bank = is_bank(a);
+    let word = match (op, c) {
+        (0, _) => Word::Move { s: a, rl: b, d: c },
+        (1, _) => Word::Add { s: a, rl: b, d: c },
+        (2, _) => Word::And { s: a, rl: b, d: c },
+        (3, _) => Word::Xor { s: a, rl: b, d: c },
+        (4, _) if bank => Word::XecBank { s: a, l: b, i: c },
+        (5, _) if bank => Word::NztBank { s: a, l: b, i: c },
+        (6, _) if bank => Word::XmitBank { d: a, l: b, i: c },
+        (4, 0) => Word::XecRegister { s: a, i: b },
+        (5, 0) if a == 7 => Word::Call { i: b },
+        (5, 0) if a == 15 && b == 0 => Word::Ret,
+        (5, 0) => Word::NztRegister { s: a, i: b },
+        (6, 0) => Word::XmitRegister { d: a, i: b },
+        (7, 0) if b == 0 => Word::Jmp { a },
+        _ => return None,
+    };
+    encode(word).ok()
+}
+
+#[test]
+fn fields_written_or_refused() {
+    let mut random = Random(0xf1e1d5);
+    for _ in 0..cases() {
+        let mut field = |limit: usize| random.pick(&[limit, limit, 2 * limit, 65_536]);
+        let limits = [field(8), field(32), field(8), field(32)];
+        let fields = limits.map(|limit| random.below(limit) as u16);
+        let ours = write_word(Fields { opcode: fields[0] as u8, fields: [fields[1], fields[2], fields[3]] });
+        assert_eq!(ours, written([fields[0] % 256, fields[1], fields[2], fields[3]]), "{fields:?}");
+    }
+}
+
+#[test]
+fn sets_counted() {
+    let mut random = Random(0x5e75);
+    for length in 0..300 {
+        let map = random_bytes(&mut random, length);
+        let expected = reference_map::counts(&map).map(|counts| counts.map(|count| count as u16));
+        assert_eq!(count_sets(&map), expected);
+    }
+    assert_eq!(count_sets(&[255; 128]), Ok([256; 4]));
+    for _ in 0..1000 {
+        let map = random_map(&mut random);
+        assert_eq!(count_sets(&map), reference_map::counts(&map).map(|counts| counts.map(|count| count as u16)));
+    }
 }
 
 #[test]

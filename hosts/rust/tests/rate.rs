@@ -1,7 +1,7 @@
-//! Steps per second of the library beside the direct Rust emulator, over the same 32,768 pairs, repeated.
-//! Run by `cargo test --release --offline --test rate -- --ignored --nocapture`.
+//! Steps per second of the library beside the direct Rust emulator, over the same 32,768 pairs, repeated; and seconds of
+//! admission for images of 8,192 words. Run by `cargo test --release --offline --test rate -- --ignored --nocapture`.
 
-use riptide::{run, RunAnswer};
+use riptide::{admit, run, table_length, RunAnswer};
 use riptide_reference::digest::{lcg_bytes, Digest};
 use riptide_reference::direct;
 use riptide_reference::programs::{bytes_of, timing_map, timing_words};
@@ -42,5 +42,97 @@ fn steps_per_second() {
         });
         assert_eq!(our_digest, their_digest);
         println!("library {ours:.2} (mean {our_mean:.2}) direct {theirs:.2} (mean {their_mean:.2}) ns a step");
+    }
+}
+
+const WORDS: usize = 8_192;
+const NOP: u16 = 0x0000;
+const CALL: u16 = 0xa700;
+const RET: u16 = 0xaf00;
+const JMP: u16 = 0xe000;
+
+/// One word after another, and back to the first.
+fn straight_line() -> Vec<u16> {
+    (0..WORDS).map(|a| if a + 1 < WORDS { NOP } else { JMP }).collect()
+}
+
+/// Each word jumps to the one before it: a sweep reaches one more.
+fn backward_jumps() -> Vec<u16> {
+    (0..WORDS).map(|a| JMP | ((a + WORDS - 1) % WORDS) as u16).collect()
+}
+
+/// Calls of the routine at `to`, in the page of AUX 0, from `from` on, up to a jump or return.
+fn calls(words: &mut [u16], from: usize, to: usize, last: u16) {
+    words[from..].fill(CALL | to as u16);
+    let end = words.len() - 1;
+    words[end] = last;
+}
+
+/// Eight levels of routines with 20 calls each, and 7,900 calls of the first from the top level.
+fn calls_and_returns() -> Vec<u16> {
+    let mut words = vec![RET; WORDS];
+    words[0] = JMP | 256;
+    for level in 1..8 {
+        let from = 1 + (level - 1) * 30;
+        calls(&mut words[..from + 21], from, from + 30, RET);
+    }
+    let end = WORDS;
+    calls(&mut words[..end], 256, 1, JMP | 256);
+    words
+}
+
+/// Calls at every level: each of 250 short routines calls the next page-0 routine and returns.
+fn deep_calls() -> Vec<u16> {
+    let mut words = vec![NOP; WORDS];
+    for (a, word) in words.iter_mut().enumerate() {
+        *word = match a % 2 {
+            0 => CALL | ((a + 2) % 256) as u16,
+            _ => RET,
+        };
+    }
+    words
+}
+
+/// An XEC of an unknown register at every other word of each page; it may execute any of the page.
+fn xec_tables() -> Vec<u16> {
+    (0..WORDS).map(|a| if a % 2 == 0 { 0x8100 } else { NOP }).collect::<Vec<_>>()
+}
+
+/// A register that is not known, then XECs into a table of moves: what a dispatcher does, on every page.
+fn xec_dispatch() -> Vec<u16> {
+    let mut words = vec![NOP; WORDS];
+    words[0] = 0x1701; // MOVE left bit 7, 8 bits -> R1
+    for (a, word) in words.iter_mut().enumerate().skip(1) {
+        if a % 16 == 15 {
+            *word = 0x8100;
+        }
+    }
+    words[WORDS - 1] = JMP;
+    words
+}
+
+#[test]
+#[ignore]
+fn admission_seconds() {
+    let images: [(&str, Vec<u16>); 6] = [
+        ("straight line", straight_line()),
+        ("backward jumps", backward_jumps()),
+        ("calls and returns", calls_and_returns()),
+        ("calls at every depth", deep_calls()),
+        ("XEC tables", xec_tables()),
+        ("XEC dispatch", xec_dispatch()),
+    ];
+    for (name, words) in images {
+        let image = bytes_of(&words);
+        let mut table = vec![0; table_length(&image)];
+        let mut table2 = table.clone();
+        let started = Instant::now();
+        let ours = admit(&image, &[255; 128], &mut table);
+        let seconds = started.elapsed().as_secs_f64();
+        let started = Instant::now();
+        let theirs = riptide_reference::table::admit(&image, &[255; 128], &mut table2);
+        let reference = started.elapsed().as_secs_f64();
+        assert_eq!(table, table2);
+        println!("{name}: {ours:?}, {} sweeps, {seconds:.3} s, reference {reference:.3} s", theirs.sweeps);
     }
 }

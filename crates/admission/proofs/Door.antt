@@ -1,0 +1,61 @@
+-- What the code of admission yields is the definition's result: one law for each way out. Assumes nothing.
+use mathlib.Core.Bool.{true, false}
+use mathlib.Core.List.{List}
+use mathlib.Core.Path.{_≡_, sym, ap, ap₂, _∙_, subst⁻¹}
+use Prim.Native.Nat.{ℕ, _*_, _%_, _<_}
+use native.Mathlib.Omega.{arith}
+use borrow.Author.Tests.{leb-true, eq-eqb, ne-eqb}
+use lib.Dec.{leb, eqb}
+use lib.ListN.{length, getD}
+use Rattle.choice.proofs.Laws.{and-first, and-second}
+use Rattle.map.specs.Map.{mapLength}
+use Rattle.machine.specs.Step.{wordCount}
+use Rattle.emulator.specs.Run.{imageFits}
+use Rattle.emulator.proofs.Door.{image-words}
+use Rattle.facts.specs.Record.{depths}
+use Rattle.callers.specs.Callers.{Held}
+use Rattle.transfer.specs.Passes.{tableLength, leastTable}
+use Rattle.transfer.proofs.TableLaws.{least-table}
+use Rattle.admission.specs.declared.AdmitAnswer.{AdmitAnswer}
+use Rattle.admission.specs.declared.AdmitAnswer.the-variants.{Refused}
+use Rattle.admission.specs.Admission.{withFindings, filledTable, verdictOf, yielded, admitResult}
+
+-- what question 11 says of the number of words
+pub image-some : (image : List ℕ) → imageFits image ≡ true → 0 < wordCount image
+unfolding imageFits
+image-some image h =
+    let least = leb-true 2 (length image) (and-first (leb 2 (length image)) _ (and-second (eqb (length image % 2) 0) _ h)) in
+    omega arith
+
+module _ (image map table : List ℕ) where
+  pub refused-11 : imageFits image ≡ false → yielded (Refused 11) table ≡ admitResult image map table
+  unfolding admitResult
+  refused-11 h = rw h
+
+  module _ (words : imageFits image ≡ true) where
+    pub refused-12 : (length map ≡ mapLength → ⊥) → yielded (Refused 12) table ≡ admitResult image map table
+    unfolding admitResult
+    refused-12 h = rw (words, ne-eqb (length map) mapLength h)
+
+    module _ (long : length map ≡ mapLength) where
+      pub refused-13 : (length table ≡ tableLength image → ⊥) → yielded (Refused 13) table ≡ admitResult image map table
+      unfolding admitResult
+      refused-13 h = rw (words, eq-eqb (length map) mapLength long, ne-eqb (length table) (tableLength image) h)
+
+      module _ (room : length table ≡ tableLength image) where
+        pub let-in : admitResult image map table ≡ yielded (verdictOf image map (leastTable image)) (filledTable image map)
+        unfolding admitResult
+        let-in = rw (words, eq-eqb (length map) mapLength long, eq-eqb (length table) (tableLength image) room)
+
+        -- what the code makes of the table: filled, and then with its findings
+        pub yields : (filled after : List ℕ) (answer : AdmitAnswer) → filled ≡ leastTable image → answer ≡ verdictOf image map filled
+            → after ≡ withFindings image map filled filled 0 (depths * wordCount image) → yielded answer after ≡ admitResult image map table
+        unfolding filledTable
+        yields filled after answer e v w =
+            ap₂ yielded (v ∙ ap (verdictOf image map) e) (w ∙ ap (λ (t : List ℕ). withFindings image map t t 0 (depths * wordCount image)) e) ∙ sym let-in
+
+-- the filled table is one that a loop over its cells can read
+pub least-held : (image filled : List ℕ) → ((k : ℕ) → getD image k 0 < 256) → imageFits image ≡ true → filled ≡ leastTable image → Held image filled
+least-held image filled bytes fits e =
+    let layout = least-table image bytes (image-some image fits) .good in
+    subst⁻¹ (Held image) e (record { words = image-words image fits; long = layout .long; fine = layout .fine })

@@ -1,0 +1,94 @@
+// Admission: a program is read before it runs. Fills the lent table of facts and answers.
+ghost use mathlib.Core.Path.{_≡_};
+ghost use Prim.Native.Nat.{_*_, _<_};
+ghost use lib.ListN.{length};
+ghost use Rattle.map.specs.Map.{mapLength};
+ghost use Rattle.machine.specs.Step.{wordCount};
+ghost use Rattle.facts.specs.Record.{depths, recordOf, cellAt, putRecord};
+ghost use Rattle.transfer.specs.Passes.{pointAt};
+ghost use Rattle.transfer.specs.Findings.{findingAt};
+ghost use Rattle.callers.specs.Callers.{Held};
+ghost use Rattle.admission.specs.Admission.{withFindings, verdictOf, yielded, admitResult};
+
+// What admission answers: a refusal at the door; admitted; or the lowest cell with a finding.
+pub enum AdmitAnswer {
+    Refused {
+        number: usize,
+    },
+    Admitted,
+    Found {
+        number: usize,
+        depth: usize,
+        address: usize,
+    },
+}
+
+fn wide(x: u8) -> usize
+    ensures { λ r. ⌜ r ≡ x ⌝ }
+{
+    x as usize
+}
+
+// Writes the finding of a cell into its record, and tells it.
+fn mark_cell(image: &[u8], map: &[u8], table: &mut [u8], depth: usize, pc: usize) -> usize
+    requires { ⌜ Held (now image) (now table) × (length (now map) ≡ mapLength) × (depth < 9) × (pc < wordCount (now image)) ⌝ }
+    ensures { λ r. ⌜ (r ≡ findingAt (now (image .entry)) (now (map .entry)) (now (table .entry)) (pointAt (wordCount (now (image .entry))) depth pc)) × (now (table .exit) ≡ putRecord (now (table .entry)) (pointAt (wordCount (now (image .entry))) depth pc) (recordOf (cellAt (now (table .entry)) (pointAt (wordCount (now (image .entry))) depth pc)) r)) ⌝ }
+{
+    let f = findings::cell_finding(image, map, table, depth, pc);
+    let i = depth * (image.len() / 2) + pc;
+    let c = cells::load(table, i);
+    cells::store(table, i, c, f);
+    wide(f)
+}
+
+// Writes the finding of every cell, and answers.
+fn mark(image: &[u8], map: &[u8], table: &mut [u8]) -> AdmitAnswer
+    requires { ⌜ Held (now image) (now table) × (length (now map) ≡ mapLength) × (0 < wordCount (now image)) ⌝ }
+    ensures { λ r. ⌜ (r ≡ verdictOf (now (image .entry)) (now (map .entry)) (now (table .entry))) × (now (table .exit) ≡ withFindings (now (image .entry)) (now (map .entry)) (now (table .entry)) (now (table .entry)) 0 (depths * wordCount (now (image .entry)))) ⌝ }
+{
+    let words = image.len() / 2;
+    let mut number = 0;
+    let mut at_depth = 0;
+    let mut at_address = 0;
+    let mut depth = 0;
+    let mut pc = 0;
+    while depth < 9 {
+        let f = mark_cell(image, map, table, depth, pc);
+        if number == 0 {
+            number = f;
+            at_depth = depth;
+            at_address = pc;
+        }
+        pc += 1;
+        if pc == words {
+            pc = 0;
+            depth += 1;
+        }
+    }
+    if number == 0 {
+        return AdmitAnswer::Admitted;
+    }
+    AdmitAnswer::Found {
+        number,
+        depth: at_depth,
+        address: at_address,
+    }
+}
+
+// Reads an image under a map, and fills the table of facts, whatever it held. Answers admitted, or the lowest cell with a
+// finding; or a refusal, 11, 12 or 13, and then no byte changes.
+pub fn admit(image: &[u8], map: &[u8], table: &mut [u8]) -> AdmitAnswer
+    ensures { λ r. ⌜ yielded r (now (table .exit)) ≡ admitResult (now (image .entry)) (now (map .entry)) (now (table .entry)) ⌝ }
+{
+    if !emulator::image_fits(image) {
+        return AdmitAnswer::Refused { number: 11 };
+    }
+    if map.len() != 128 {
+        return AdmitAnswer::Refused { number: 12 };
+    }
+    if table.len() != image.len() / 2 * 144 {
+        return AdmitAnswer::Refused { number: 13 };
+    }
+    sweeps::fill(image, table);
+    mark(image, map, table)
+}

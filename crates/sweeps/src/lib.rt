@@ -1,0 +1,392 @@
+// The lent table filled by sweeps: what each cell passes on is joined in at its targets, until nothing changes.
+ghost use mathlib.Core.Path.{_≡_};
+ghost use mathlib.Core.Bool.{_&&_};
+ghost use mathlib.Core.List.{[], _∷_};
+ghost use Prim.Native.Nat.{ℕ, _+_, _-_, _*_, _≤_, _<_};
+ghost use lib.Dec.{ltb};
+ghost use lib.ListN.{length, getD, replicate};
+ghost use Rattle.choice.specs.Choice.{pick};
+ghost use Rattle.word.specs.Word.{InRange};
+ghost use Rattle.machine.specs.Shape.{sourceOf, targetOf, constant, register, act, go, branch, defer, call, actShape, shapeOf};
+ghost use Rattle.machine.specs.Step.{wordCount, shapeAt};
+ghost use Rattle.machine.specs.Parts.{IsPage};
+ghost use Rattle.flow.specs.Flow.{turn, turnChanges, sweep, sweepChanges};
+ghost use Rattle.facts.specs.Facts.{unknown, resultFact, withCarryFact, putFact};
+ghost use Rattle.facts.specs.Record.{recordSize, depths};
+ghost use Rattle.cells.specs.Cells.{Bounded};
+ghost use Rattle.callers.specs.Callers.{spanIs, Within};
+ghost use Rattle.transfer.specs.Passes.{pointAt, toward, gives, pageAddress, canBeExecuted, wordsAt, some, isReturn, wordPasses, allPasses, returnPasses, tableSpace, leastTable};
+ghost use Rattle.sweeps.specs.Sweeps.{Laid, Passed};
+use callers::Values;
+use facts::Cell;
+use word::Word;
+
+// Passes facts on to an address at a depth; an address at or above N gets nothing. Says whether a cell changed, as all
+// that follow do.
+fn pass(image: &[u8], table: &mut [u8], depth: usize, a: usize, facts: [u16; 11]) -> bool
+    requires { ⌜ Laid (now image) (now table) × (depth < 9) × Bounded facts ⌝ }
+    ensures { λ r. ⌜ Passed (now (image .entry)) depth (now (table .entry)) (toward (wordCount (now (image .entry))) depth a facts) (now (table .exit)) r ⌝ }
+{
+    let words = image.len() / 2;
+    if a < words {
+        let d = Cell {
+            reached: true,
+            facts,
+        };
+        return cells::join_into(table, depth * words + a, d);
+    }
+    false
+}
+
+// The same where a test holds, and else nothing.
+fn pass_if(
+    image: &[u8],
+    table: &mut [u8],
+    depth: usize,
+    a: usize,
+    facts: [u16; 11],
+    test: bool,
+) -> bool
+    requires { ⌜ Laid (now image) (now table) × (depth < 9) × Bounded facts ⌝ }
+    ensures { λ r. ⌜ Passed (now (image .entry)) depth (now (table .entry)) (pick test (toward (wordCount (now (image .entry))) depth a facts) []) (now (table .exit)) r ⌝ }
+{
+    if test {
+        return pass(image, table, depth, a, facts);
+    }
+    false
+}
+
+// MOVE, ADD, AND, XOR and XMIT: the source has the fact x, the target is d.
+fn pass_act(
+    image: &[u8],
+    table: &mut [u8],
+    depth: usize,
+    pc: usize,
+    facts: [u16; 11],
+    op: usize,
+    x: u16,
+    d: usize,
+) -> bool
+    requires { ⌜ Laid (now image) (now table) × (depth < 9) × Within (now image) pc × Bounded facts × (x ≤ unknown) ⌝ }
+    ensures { λ r. ⌜ ((l : ℕ) → Passed (now (image .entry)) depth (now (table .entry)) (toward (wordCount (now (image .entry))) depth (pc + 1) (putFact (targetOf d l) (resultFact op (getD facts 0 unknown) x) (withCarryFact op (getD facts 0 unknown) x facts))) (now (table .exit)) r) ⌝ }
+{
+    let after = cells::acts::facts_after(op, x, d, facts);
+    pass(image, table, depth, pc + 1, after)
+}
+
+// MOVE, ADD, AND and XOR: the opcode, the source, R or L, the target.
+fn pass_operation(
+    image: &[u8],
+    table: &mut [u8],
+    depth: usize,
+    pc: usize,
+    facts: [u16; 11],
+    op: usize,
+    s: usize,
+    rl: usize,
+    d: usize,
+) -> bool
+    requires { ⌜ Laid (now image) (now table) × (depth < 9) × Within (now image) pc × Bounded facts × (rl < 8) ⌝ }
+    ensures { λ r. ⌜ Passed (now (image .entry)) depth (now (table .entry)) (wordPasses (wordCount (now (image .entry))) depth pc facts (actShape op s rl d)) (now (table .exit)) r ⌝ }
+{
+    let x = cells::acts::fact_of(facts, s, machine::act::places(rl, d));
+    pass_act(image, table, depth, pc, facts, op, x, d)
+}
+
+// XMIT: the constant, the target.
+fn pass_constant(
+    image: &[u8],
+    table: &mut [u8],
+    depth: usize,
+    pc: usize,
+    facts: [u16; 11],
+    i: usize,
+    d: usize,
+) -> bool
+    requires { ⌜ Laid (now image) (now table) × (depth < 9) × Within (now image) pc × Bounded facts × (i < 256) ⌝ }
+    ensures { λ r. ⌜ ((l : ℕ) → Passed (now (image .entry)) depth (now (table .entry)) (wordPasses (wordCount (now (image .entry))) depth pc facts (act (constant i) 0 (targetOf d l))) (now (table .exit)) r) ⌝ }
+{
+    pass_act(image, table, depth, pc, facts, 0, i as u16, d)
+}
+
+// NZT of the source s, or of its field of length l where it is a bank.
+fn pass_branch(
+    image: &[u8],
+    table: &mut [u8],
+    depth: usize,
+    pc: usize,
+    facts: [u16; 11],
+    s: usize,
+    l: usize,
+    page: usize,
+    i: usize,
+) -> bool
+    requires { ⌜ Laid (now image) (now table) × (depth < 9) × Within (now image) pc × Bounded facts × (l < 8) × IsPage page ⌝ }
+    ensures { λ r. ⌜ Passed (now (image .entry)) depth (now (table .entry)) (wordPasses (wordCount (now (image .entry))) depth pc facts (go (sourceOf s 0 l) (branch page i))) (now (table .exit)) r ⌝ }
+{
+    let v = callers::values_of(facts, s, l);
+    let on = pass_if(image, table, depth, pc + 1, facts, v.low == 0);
+    let a = machine::go::in_page(page, pc, i);
+    let away = pass_if(image, table, depth, a, facts, 1 < v.low + v.count);
+    on | away
+}
+
+// CALL: to every page that AUX may be.
+fn pass_call(
+    image: &[u8],
+    table: &mut [u8],
+    depth: usize,
+    pc: usize,
+    facts: [u16; 11],
+    i: usize,
+) -> bool
+    requires { ⌜ Laid (now image) (now table) × (depth < 9) × Bounded facts × (i < 256) ⌝ }
+    ensures { λ r. ⌜ Passed (now (image .entry)) depth (now (table .entry)) (wordPasses (wordCount (now (image .entry))) depth pc facts (go (register 0 0) (call i))) (now (table .exit)) r ⌝ }
+{
+    if depth == 8 {
+        return false;
+    }
+    let v = callers::values_of(facts, 0, 0);
+    let mut changed = false;
+    let mut n = 0;
+    while n < v.count {
+        let r = pass(image, table, depth + 1, (v.low + n) * 256 + i, facts);
+        changed = changed | r;
+        n += 1;
+    }
+    changed
+}
+
+// What a word that is executed at pc passes on; RET is told by pass_back.
+fn pass_word(
+    image: &[u8],
+    table: &mut [u8],
+    depth: usize,
+    pc: usize,
+    facts: [u16; 11],
+    word: Word,
+) -> bool
+    requires { ⌜ Laid (now image) (now table) × (depth < 9) × Within (now image) pc × Bounded facts × InRange word ⌝ }
+    ensures { λ r. ⌜ Passed (now (image .entry)) depth (now (table .entry)) (wordPasses (wordCount (now (image .entry))) depth pc facts (shapeOf word)) (now (table .exit)) r ⌝ }
+{
+    match word {
+        Word::Move { s, rl, d } => {
+            return pass_operation(image, table, depth, pc, facts, 0, s, rl, d);
+        }
+        Word::Add { s, rl, d } => {
+            return pass_operation(image, table, depth, pc, facts, 1, s, rl, d);
+        }
+        Word::And { s, rl, d } => {
+            return pass_operation(image, table, depth, pc, facts, 2, s, rl, d);
+        }
+        Word::Xor { s, rl, d } => {
+            return pass_operation(image, table, depth, pc, facts, 3, s, rl, d);
+        }
+        Word::XecRegister { s, i } => {
+            return false;
+        }
+        Word::XecBank { s, l, i } => {
+            return false;
+        }
+        Word::NztRegister { s, i } => {
+            return pass_branch(image, table, depth, pc, facts, s, 0, 256, i);
+        }
+        Word::NztBank { s, l, i } => {
+            return pass_branch(image, table, depth, pc, facts, s, l, 32, i);
+        }
+        Word::Call { i } => {
+            return pass_call(image, table, depth, pc, facts, i);
+        }
+        Word::Ret => {
+            return false;
+        }
+        Word::XmitRegister { d, i } => {
+            return pass_constant(image, table, depth, pc, facts, i, d);
+        }
+        Word::XmitBank { d, l, i } => {
+            return pass_constant(image, table, depth, pc, facts, i, d);
+        }
+        Word::Jmp { a } => {
+            return pass(image, table, depth, a, facts);
+        }
+        Word::Invalid => {
+            return false;
+        }
+    }
+}
+
+// What the word at place k of the page passes on, if an XEC at pc may execute it.
+fn pass_place(
+    image: &[u8],
+    table: &mut [u8],
+    depth: usize,
+    pc: usize,
+    facts: [u16; 11],
+    page: usize,
+    i: usize,
+    v: Values,
+    k: usize,
+) -> bool
+    requires { ⌜ Laid (now image) (now table) × (depth < 9) × Within (now image) pc × Bounded facts × IsPage page × (i < 256) × (v .low + v .count ≤ 256) × (k < page) ⌝ }
+    ensures { λ r. ⌜ Passed (now (image .entry)) depth (now (table .entry)) (allPasses (wordCount (now (image .entry))) depth pc facts (pick (gives page i (spanIs v) k && canBeExecuted (now (image .entry)) (pageAddress page pc k)) (shapeAt (now (image .entry)) (pageAddress page pc k) ∷ []) [])) (now (table .exit)) r ⌝ }
+{
+    if !callers::gives(page, i, v, k) {
+        return false;
+    }
+    let a = machine::go::in_page(page, pc, k);
+    if image.len() / 2 <= a {
+        return false;
+    }
+    let word = machine::word_at(image, a);
+    pass_word(image, table, depth, pc, facts, word)
+}
+
+// What the words that an XEC at pc may execute pass on.
+fn pass_executed(
+    image: &[u8],
+    table: &mut [u8],
+    depth: usize,
+    pc: usize,
+    facts: [u16; 11],
+    s: usize,
+    l: usize,
+    page: usize,
+    i: usize,
+) -> bool
+    requires { ⌜ Laid (now image) (now table) × (depth < 9) × Within (now image) pc × Bounded facts × (l < 8) × IsPage page × (i < 256) ⌝ }
+    ensures { λ r. ⌜ Passed (now (image .entry)) depth (now (table .entry)) (allPasses (wordCount (now (image .entry))) depth pc facts (wordsAt (now (image .entry)) pc facts (go (sourceOf s 0 l) (defer page i)))) (now (table .exit)) r ⌝ }
+{
+    let v = callers::values_of(facts, s, l);
+    let mut changed = false;
+    let mut k = 0;
+    while k < page {
+        let r = pass_place(image, table, depth, pc, facts, page, i, v, k);
+        changed = changed | r;
+        k += 1;
+    }
+    changed
+}
+
+// What all the words that the cell at pc executes pass on.
+fn pass_words(
+    image: &[u8],
+    table: &mut [u8],
+    depth: usize,
+    pc: usize,
+    facts: [u16; 11],
+    word: Word,
+) -> bool
+    requires { ⌜ Laid (now image) (now table) × (depth < 9) × Within (now image) pc × Bounded facts × InRange word ⌝ }
+    ensures { λ r. ⌜ Passed (now (image .entry)) depth (now (table .entry)) (allPasses (wordCount (now (image .entry))) depth pc facts (wordsAt (now (image .entry)) pc facts (shapeOf word))) (now (table .exit)) r ⌝ }
+{
+    if let Word::XecRegister { s, i } = word {
+        return pass_executed(image, table, depth, pc, facts, s, 0, 256, i);
+    }
+    if let Word::XecBank { s, l, i } = word {
+        return pass_executed(image, table, depth, pc, facts, s, l, 32, i);
+    }
+    pass_word(image, table, depth, pc, facts, word)
+}
+
+// RET back to a depth: to the address after every call site there, from the last on, so that a cell that changes is
+// none that is still to be asked.
+fn pass_back(image: &[u8], table: &mut [u8], depth: usize, facts: [u16; 11]) -> bool
+    requires { ⌜ Laid (now image) (now table) × (depth < 9) × Bounded facts ⌝ }
+    ensures { λ r. ⌜ Passed (now (image .entry)) depth (now (table .entry)) (returnPasses (now (image .entry)) (now (table .entry)) depth facts) (now (table .exit)) r ⌝ }
+{
+    let mut changed = false;
+    let mut a = image.len() / 2;
+    while 0 < a {
+        a -= 1;
+        let site = callers::is_call_site(image, table, depth, a);
+        let r = pass_if(image, table, depth, a + 1, facts, site);
+        changed = changed | r;
+    }
+    changed
+}
+
+// RET at pc, where the cell there executes one and the depth is not 0.
+fn pass_returns(
+    image: &[u8],
+    table: &mut [u8],
+    depth: usize,
+    pc: usize,
+    facts: [u16; 11],
+    word: Word,
+) -> bool
+    requires { ⌜ Laid (now image) (now table) × (depth < 9) × Within (now image) pc × Bounded facts × InRange word ⌝ }
+    ensures { λ r. ⌜ Passed (now (image .entry)) (depth - 1) (now (table .entry)) (pick (ltb 0 depth && some isReturn (wordsAt (now (image .entry)) pc facts (shapeOf word))) (returnPasses (now (image .entry)) (now (table .entry)) (depth - 1) facts) []) (now (table .exit)) r ⌝ }
+{
+    if depth == 0 {
+        return false;
+    }
+    if !callers::performs(image, pc, facts, word, true) {
+        return false;
+    }
+    pass_back(image, table, depth - 1, facts)
+}
+
+// The turn of a cell.
+fn turn(image: &[u8], table: &mut [u8], depth: usize, pc: usize) -> bool
+    requires { ⌜ Laid (now image) (now table) × (depth < 9) × Within (now image) pc ⌝ }
+    ensures { λ r. ⌜ (now (table .exit) ≡ turn (tableSpace (now (image .entry))) (now (table .entry)) (pointAt (wordCount (now (image .entry))) depth pc)) × (r ≡ turnChanges (tableSpace (now (image .entry))) (now (table .entry)) (pointAt (wordCount (now (image .entry))) depth pc)) × Laid (now (image .entry)) (now (table .exit)) ⌝ }
+{
+    let c = cells::load(table, depth * (image.len() / 2) + pc);
+    if !c.reached {
+        return false;
+    }
+    let facts = c.facts;
+    let word = machine::word_at(image, pc);
+    let on = pass_words(image, table, depth, pc, facts, word);
+    let back = pass_returns(image, table, depth, pc, facts, word);
+    on | back
+}
+
+// The turn of every cell, once, in order.
+fn sweep(image: &[u8], table: &mut [u8]) -> bool
+    requires { ⌜ Laid (now image) (now table) × (0 < wordCount (now image)) ⌝ }
+    ensures { λ r. ⌜ (now (table .exit) ≡ sweep (tableSpace (now (image .entry))) (now (table .entry))) × (r ≡ sweepChanges (tableSpace (now (image .entry))) (now (table .entry))) × Laid (now (image .entry)) (now (table .exit)) ⌝ }
+{
+    let words = image.len() / 2;
+    let mut changed = false;
+    let mut depth = 0;
+    let mut pc = 0;
+    while depth < 9 {
+        let r = turn(image, table, depth, pc);
+        changed = changed | r;
+        pc += 1;
+        if pc == words {
+            pc = 0;
+            depth += 1;
+        }
+    }
+    changed
+}
+
+// Makes every byte zero.
+fn clear(table: &mut [u8])
+    ensures { λ _. ⌜ now (table .exit) ≡ replicate (length (now (table .entry))) 0 ⌝ }
+{
+    let mut i = 0;
+    while i < table.len() {
+        table[i] = 0;
+        i += 1;
+    }
+}
+
+// Fills the table, whatever it held: the least table of the image.
+pub fn fill(image: &[u8], table: &mut [u8])
+    requires { ⌜ (0 < wordCount (now image)) × (wordCount (now image) ≤ 8192) × (length (now table) ≡ recordSize * (depths * wordCount (now image))) ⌝ }
+    ensures { λ _. ⌜ now (table .exit) ≡ leastTable (now (image .entry)) ⌝ }
+{
+    clear(table);
+    let reset = Cell {
+        reached: true,
+        facts: [0; 11],
+    };
+    cells::store(table, 0, reset, 0);
+    let mut going = true;
+    while going {
+        going = sweep(image, table);
+    }
+}
