@@ -16,6 +16,7 @@ use Rattle.facts.specs.declared.Cell.{Cell}
 use Rattle.facts.specs.Facts.{factCount, unknown}
 use Rattle.facts.specs.Record.{recordSize, maskOf, valueByte, recordOf, factAt, readCell, cellAt, putRecord, FineCell}
 use Rattle.facts.proofs.Mask.{known-bit}
+use Rattle.facts.proofs.Records.{part-at}
 use Rattle.cells.specs.Cells.{Bounded}
 
 -- ---- a record read
@@ -29,6 +30,13 @@ fact-eq b k e h = h ∙ ap (λ (m : ℕ). pick (eqb (m / 2 ^ k % 2) 1) (getD b (
 pub part-read : (t : List ℕ) (i : ℕ) → readCell (take (recordSize * i + recordSize - recordSize * i) (drop (recordSize * i) t)) ≡ cellAt t i
 unfolding cellAt
 part-read t i = ap (λ (n : ℕ). readCell (take n (drop (recordSize * i) t))) {x = recordSize * i + recordSize - recordSize * i} {y = recordSize} (omega arith)
+
+-- its first byte tells whether the cell is reached
+pub first-byte : (t : List ℕ) (i : ℕ) → eqb (getD t (recordSize * i) 0) 1 ≡ cellAt t i .reached
+unfolding cellAt readCell
+first-byte t i =
+    let here : recordSize * i + 0 ≡ recordSize * i = omega arith in
+    ap (λ (b : ℕ). eqb b 1) (sym (part-at t i 0 (omega arith) ∙ ap (λ (x : ℕ). getD t x 0) here))
 
 -- ---- a record made
 

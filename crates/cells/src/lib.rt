@@ -71,6 +71,14 @@ pub fn load(table: &[u8], i: usize) -> Cell
     load_record(&table[a..e])
 }
 
+// Is cell i of a table reached?
+pub fn reached(table: &[u8], i: usize) -> bool
+    requires { ⌜ recordSize * i + recordSize ≤ length (now table) ⌝ }
+    ensures { λ r. ⌜ r ≡ cellAt (now (table .entry)) i .reached ⌝ }
+{
+    table[16 * i] == 1
+}
+
 // The mask of a fact and of those after it.
 fn more(f: u16, rest: u16) -> u16
     requires { ⌜ rest < 1024 ⌝ }

@@ -26,22 +26,22 @@ module _ (image t : List ℕ) (depth pc : ℕ) (h : pc < wordCount image) where
   point = pointAt (wordCount image) depth pc
 
   -- a cell that is not reached
-  pub turn-still : {c : Cell} → c ≡ cellAt t (pointAt (wordCount image) depth pc) → not (c .reached) ≡ true → Laid image t
+  pub turn-still : {b : Bool} → b ≡ cellAt t (pointAt (wordCount image) depth pc) .reached → not b ≡ true → Laid image t
       → (t ≡ turn (tableSpace image) t (pointAt (wordCount image) depth pc)) × (false ≡ turnChanges (tableSpace image) t (pointAt (wordCount image) depth pc)) × Laid image t
-  turn-still {c = c} e n g =
-      let no : cellAt t point .reached ≡ false = sym (ap (λ (x : Cell). x .reached) e) ∙ not-true (c .reached) n in
+  turn-still {b = b} e n g =
+      let no : cellAt t point .reached ≡ false = sym e ∙ not-true b n in
       let none : passesFrom image t point ≡ [] =
       ap (λ (b : Bool). pick b (cellPasses image t (point / wordCount image) (point % wordCount image) (cellAt t point .facts)) []) no in
       (sym (turn-nothing (tableSpace image) t point none), sym (turnChanges-nothing (tableSpace image) t point none), g)
 
   -- a cell that is reached
-  passes-eq : {c : Cell} {w : Word} (u : List ℕ) → c ≡ cellAt t point → not (c .reached) ≡ false → w ≡ decoded (wordAt image pc)
+  passes-eq : {b : Bool} {c : Cell} {w : Word} (u : List ℕ) → b ≡ cellAt t point .reached → c ≡ cellAt t point → not b ≡ false → w ≡ decoded (wordAt image pc)
       → ((i : ℕ) → i < depth * wordCount image → cellAt u i ≡ cellAt t i)
       → allPasses (wordCount image) depth pc (c .facts) (wordsAt image pc (c .facts) (shapeOf w)) ++
       pick (ltb 0 depth && some isReturn (wordsAt image pc (c .facts) (shapeOf w))) (returnPasses image u (depth - 1) (c .facts)) []
       ≡ passesFrom image t point
-  passes-eq {c = c} {w = w} u e n read kept =
-      let yes : cellAt t point .reached ≡ true = sym (ap (λ (x : Cell). x .reached) e) ∙ not-false (c .reached) n in
+  passes-eq {b = b} {c = c} {w = w} u here e n read kept =
+      let yes : cellAt t point .reached ≡ true = sym here ∙ not-false b n in
       ap (λ (l : List (Pass Cell)). allPasses (wordCount image) depth pc (c .facts) (wordsAt image pc (c .facts) (shapeOf w)) ++ l)
       (back-same image t depth (c .facts) (some isReturn (wordsAt image pc (c .facts) (shapeOf w))) u kept)
       ∙ ap (λ (s : Shape). allPasses (wordCount image) depth pc (c .facts) (wordsAt image pc (c .facts) s) ++
@@ -51,12 +51,12 @@ module _ (image t : List ℕ) (depth pc : ℕ) (h : pc < wordCount image) where
       ∙ sym (ap₂ (λ (d a : ℕ). cellPasses image t d a (cellAt t point .facts)) (point-depth (wordCount image) depth pc h) (point-address (wordCount image) depth pc h))
       ∙ sym (ap (λ (b : Bool). pick b (cellPasses image t (point / wordCount image) (point % wordCount image) (cellAt t point .facts)) []) yes)
 
-  pub turn-done : {c : Cell} {w : Word} {u v : List ℕ} {r s : Bool} → wordCount image ≤ 8192
-      → c ≡ cellAt t (pointAt (wordCount image) depth pc) → not (c .reached) ≡ false → w ≡ decoded (wordAt image pc)
+  pub turn-done : {b : Bool} {c : Cell} {w : Word} {u v : List ℕ} {r s : Bool} → wordCount image ≤ 8192
+      → b ≡ cellAt t (pointAt (wordCount image) depth pc) .reached → c ≡ cellAt t (pointAt (wordCount image) depth pc) → not b ≡ false → w ≡ decoded (wordAt image pc)
       → Passed image depth t (allPasses (wordCount image) depth pc (c .facts) (wordsAt image pc (c .facts) (shapeOf w))) u r
       → Passed image (depth - 1) u (pick (ltb 0 depth && some isReturn (wordsAt image pc (c .facts) (shapeOf w))) (returnPasses image u (depth - 1) (c .facts)) []) v s
       → (v ≡ turn (tableSpace image) t (pointAt (wordCount image) depth pc)) × ((r || s) ≡ turnChanges (tableSpace image) t (pointAt (wordCount image) depth pc)) × Laid image v
-  turn-done {u = u} {v = v} {r = r} {s = s} words e n read p q =
+  turn-done {u = u} {v = v} {r = r} {s = s} words here e n read p q =
       let all : Passed image (depth - 1) t (passesFrom image t point) v (r || s) =
-      subst (λ (ps : List (Pass Cell)). Passed image (depth - 1) t ps v (r || s)) (passes-eq u e n read (p .kept)) (passed-then (passed-higher (omega arith) p) q) in
+      subst (λ (ps : List (Pass Cell)). Passed image (depth - 1) t ps v (r || s)) (passes-eq u here e n read (p .kept)) (passed-then (passed-higher (omega arith) p) q) in
       (all .table, all .flag, record { words = words; layout = all .laid })

@@ -331,10 +331,11 @@ fn turn(image: &[u8], table: &mut [u8], depth: usize, pc: usize) -> bool
     requires { ⌜ Laid (now image) (now table) × (depth < 9) × Within (now image) pc ⌝ }
     ensures { λ r. ⌜ (now (table .exit) ≡ turn (tableSpace (now (image .entry))) (now (table .entry)) (pointAt (wordCount (now (image .entry))) depth pc)) × (r ≡ turnChanges (tableSpace (now (image .entry))) (now (table .entry)) (pointAt (wordCount (now (image .entry))) depth pc)) × Laid (now (image .entry)) (now (table .exit)) ⌝ }
 {
-    let c = cells::load(table, depth * (image.len() / 2) + pc);
-    if !c.reached {
+    let i = depth * (image.len() / 2) + pc;
+    if !cells::reached(table, i) {
         return false;
     }
+    let c = cells::load(table, i);
     let facts = c.facts;
     let word = machine::word_at(image, pc);
     let on = pass_words(image, table, depth, pc, facts, word);

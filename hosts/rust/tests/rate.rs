@@ -81,33 +81,45 @@ fn calls_and_returns() -> Vec<u16> {
     words
 }
 
-/// Calls at every level: each of 250 short routines calls the next page-0 routine and returns.
-fn deep_calls() -> Vec<u16> {
+const READ: u16 = 0x1701; // MOVE left bit 7, 8 bits -> R1, which is not known then
+const NZT: u16 = 0xa100; // NZT R1
+const XEC: u16 = 0x8100; // XEC R1
+
+/// An XEC of an unknown register at every other word: each may execute all of its page.
+fn xec_tables() -> Vec<u16> {
+    let mut words: Vec<u16> = (0..WORDS).map(|a| if a % 2 == 1 { XEC } else { NOP }).collect();
+    words[0] = READ;
+    words[WORDS - 1] = JMP;
+    words
+}
+
+/// A dispatcher on every page of 32: an XEC of a field of 3 bits chooses one of eight jumps behind it.
+fn dispatchers() -> Vec<u16> {
     let mut words = vec![NOP; WORDS];
-    for (a, word) in words.iter_mut().enumerate() {
-        *word = match a % 2 {
-            0 => CALL | ((a + 2) % 256) as u16,
-            _ => RET,
-        };
+    for page in (0..WORDS).step_by(32) {
+        words[page + 8] = 0x9770; // XEC left bit 7, 3 bits, from place 16 on
+        words[page + 9] = JMP | ((page + 32) % WORDS) as u16;
+        for place in 0..8 {
+            words[page + 16 + place] = JMP | (page + 24 + place) as u16;
+        }
+        words[page + 31] = JMP | ((page + 32) % WORDS) as u16;
     }
     words
 }
 
-/// An XEC of an unknown register at every other word of each page; it may execute any of the page.
-fn xec_tables() -> Vec<u16> {
-    (0..WORDS).map(|a| if a % 2 == 0 { 0x8100 } else { NOP }).collect::<Vec<_>>()
-}
-
-/// A register that is not known, then XECs into a table of moves: what a dispatcher does, on every page.
-fn xec_dispatch() -> Vec<u16> {
-    let mut words = vec![NOP; WORDS];
-    words[0] = 0x1701; // MOVE left bit 7, 8 bits -> R1
-    for (a, word) in words.iter_mut().enumerate().skip(1) {
-        if a % 16 == 15 {
-            *word = 0x8100;
-        }
+/// A routine of 3,900 returns, each of which asks every word for a call site, swept as often as there are backward jumps.
+fn returns_and_jumps(jumps: usize) -> Vec<u16> {
+    let mut words = vec![RET; WORDS];
+    words[0] = READ;
+    words[1] = CALL | 4;
+    words[2] = JMP | (WORDS - 1) as u16;
+    for a in (4..7_800).step_by(2) {
+        words[a] = if a % 256 == 254 { JMP | (a + 2) as u16 } else { NZT | ((a + 2) % 256) as u16 };
     }
-    words[WORDS - 1] = JMP;
+    for (a, word) in words.iter_mut().enumerate().skip(WORDS - jumps) {
+        *word = JMP | (a - 1) as u16;
+    }
+    words[WORDS - jumps] = JMP;
     words
 }
 
@@ -118,9 +130,9 @@ fn admission_seconds() {
         ("straight line", straight_line()),
         ("backward jumps", backward_jumps()),
         ("calls and returns", calls_and_returns()),
-        ("calls at every depth", deep_calls()),
         ("XEC tables", xec_tables()),
-        ("XEC dispatch", xec_dispatch()),
+        ("dispatchers", dispatchers()),
+        ("returns and 100 backward jumps", returns_and_jumps(100)),
     ];
     for (name, words) in images {
         let image = bytes_of(&words);
