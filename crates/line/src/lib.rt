@@ -1,0 +1,167 @@
+// The line that the bench program prints, made from its input.
+ghost use mathlib.Core.Path.{_≡_};
+ghost use mathlib.Core.List.{List, [], _∷_, _++_};
+ghost use mathlib.Core.Bool.{true};
+ghost use Prim.Native.Nat.{ℕ, _+_, _≤_, _<_};
+ghost use lib.ListN.{length, take, drop};
+ghost use Rattle.map.specs.Map.{mapLength};
+ghost use Rattle.choice.specs.Choice.{asked};
+ghost use Rattle.machine.specs.Step.{wordCount};
+ghost use Rattle.emulator.specs.Run.{imageFits};
+ghost use Rattle.line.specs.Line.{decimal, setsText, doorLine, admittedLine, foundLine, inputQuestions, wordsLine, lineOf};
+ghost use Rattle.line.specs.Parts.{Written};
+use admission::AdmitAnswer;
+use map::Counts;
+
+// Puts a text at a place of the line; the place behind it.
+fn put(out: &mut [u8], at: usize, text: &[u8]) -> usize
+    requires { ⌜ at + length (now text) ≤ length (now out) ⌝ }
+    ensures { λ r. ⌜ Written (now (out .entry)) at (now (text .entry)) (now (out .exit)) r ⌝ }
+{
+    let e = at + text.len();
+    bytes::copy(text, &mut out[at..e]);
+    e
+}
+
+// The byte of a digit.
+fn digit(d: usize) -> u8
+    requires { ⌜ d < 10 ⌝ }
+    ensures { λ r. ⌜ r ≡ 48 + d ⌝ }
+{
+    (48 + d) as u8
+}
+
+// Puts a number below 1,000 in decimal.
+fn put_decimal(out: &mut [u8], at: usize, n: usize) -> usize
+    requires { ⌜ (at + 3 ≤ length (now out)) × (n < 1000) ⌝ }
+    ensures { λ r. ⌜ Written (now (out .entry)) at (decimal n) (now (out .exit)) r × (r ≤ at + 3) ⌝ }
+{
+    if n < 10 {
+        let one = [digit(n)];
+        return put(out, at, &one);
+    }
+    if n < 100 {
+        let two = [digit(n / 10), digit(n % 10)];
+        return put(out, at, &two);
+    }
+    let three = [digit(n / 100), digit(n / 10 % 10), digit(n % 10)];
+    put(out, at, &three)
+}
+
+// A text and a number.
+fn put_value(out: &mut [u8], at: usize, text: &[u8], n: usize) -> usize
+    requires { ⌜ (at + length (now text) + 3 ≤ length (now out)) × (n < 1000) ⌝ }
+    ensures { λ r. ⌜ Written (now (out .entry)) at (now (text .entry) ++ decimal n) (now (out .exit)) r × (r ≤ at + length (now (text .entry)) + 3) ⌝ }
+{
+    let b = put(out, at, text);
+    put_decimal(out, b, n)
+}
+
+fn put_door(out: &mut [u8], number: usize) -> usize
+    requires { ⌜ (64 ≤ length (now out)) × (number < 1000) ⌝ }
+    ensures { λ r. ⌜ Written (now (out .entry)) 0 (doorLine number) (now (out .exit)) r × (r < 64) ⌝ }
+{
+    put_value(out, 0, b"refused ", number)
+}
+
+fn put_found(out: &mut [u8], number: usize, depth: usize, address: usize) -> usize
+    requires { ⌜ (64 ≤ length (now out)) × (number < 1000) × (depth < 1000) × (address < 1000) ⌝ }
+    ensures { λ r. ⌜ Written (now (out .entry)) 0 (foundLine number depth address) (now (out .exit)) r × (r < 64) ⌝ }
+{
+    let b = put_value(out, 0, b"refused ", number);
+    let c = put_value(out, b, b" depth ", depth);
+    put_value(out, c, b" address ", address)
+}
+
+// How many addresses each of the four sets has.
+fn put_sets(out: &mut [u8], at: usize, a: usize, b: usize, c: usize, d: usize) -> usize
+    requires { ⌜ (at + 27 ≤ length (now out)) × (a < 1000) × (b < 1000) × (c < 1000) × (d < 1000) ⌝ }
+    ensures { λ r. ⌜ Written (now (out .entry)) at (setsText a b c d) (now (out .exit)) r × (r ≤ at + 27) ⌝ }
+{
+    let e = put_value(out, at, b" left ", a);
+    let f = put_value(out, e, b" ", b);
+    let g = put_value(out, f, b" right ", c);
+    put_value(out, g, b" ", d)
+}
+
+fn put_admitted(out: &mut [u8], words: usize, map: &[u8]) -> usize
+    requires { ⌜ (64 ≤ length (now out)) × (words < 1000) × (length (now map) ≡ mapLength) ⌝ }
+    ensures { λ r. ⌜ ((image : List ℕ) → words ≡ wordCount image → Written (now (out .entry)) 0 (admittedLine image (now (map .entry))) (now (out .exit)) r) × (r < 64) ⌝ }
+{
+    let a = put_value(out, 0, b"admitted words ", words);
+    let Counts::Sets {
+        left_readable,
+        left_writable,
+        right_readable,
+        right_writable,
+    } = map::count(map)
+    else {
+        return a;
+    };
+    put_sets(
+        out,
+        a,
+        left_readable,
+        left_writable,
+        right_readable,
+        right_writable,
+    )
+}
+
+// Room for the table of 400 words.
+fn table_buffer() -> [u8; 57600]
+    ensures { λ r. ⌜ 57600 ≡ length r ⌝ }
+{
+    [0; 57600]
+}
+
+// What admission of an image of at most 400 words answers, as a line.
+fn put_answer(out: &mut [u8], map: &[u8], image: &[u8]) -> usize
+    requires { ⌜ (64 ≤ length (now out)) × (length (now map) ≡ mapLength) × (imageFits (now image) ≡ true) × (length (now image) ≤ 800) ⌝ }
+    ensures { λ r. ⌜ Written (now (out .entry)) 0 (wordsLine (now (map .entry)) (now (image .entry))) (now (out .exit)) r × (r < 64) ⌝ }
+{
+    let words = image.len() / 2;
+    let size = words * 144;
+    let mut table = table_buffer();
+    match admission::admit(image, map, &mut table[..size]) {
+        AdmitAnswer::Refused { number } => {
+            return put_door(out, number);
+        }
+        AdmitAnswer::Admitted => {
+            return put_admitted(out, words, map);
+        }
+        AdmitAnswer::Found {
+            number,
+            depth,
+            address,
+        } => {
+            return put_found(out, number, depth, address);
+        }
+    }
+}
+
+// The line without its end.
+fn put_words(out: &mut [u8], input: &[u8]) -> usize
+    requires { ⌜ 64 ≤ length (now out) ⌝ }
+    ensures { λ r. ⌜ Written (now (out .entry)) 0 (asked (inputQuestions (now (input .entry))) (wordsLine (take mapLength (now (input .entry))) (drop mapLength (now (input .entry)))) doorLine) (now (out .exit)) r × (r < 64) ⌝ }
+{
+    if input.len() < 128 {
+        return put_door(out, 12);
+    }
+    if 928 < input.len() {
+        return put_door(out, 18);
+    }
+    if !emulator::image_fits(&input[128..]) {
+        return put_door(out, 11);
+    }
+    put_answer(out, &input[..128], &input[128..])
+}
+
+// Makes the line of an input, the map and then the image; its length.
+pub fn line(input: &[u8], out: &mut [u8]) -> usize
+    requires { ⌜ 64 ≤ length (now out) ⌝ }
+    ensures { λ r. ⌜ (take r (now (out .exit)) ≡ lineOf (now (input .entry))) × (r ≤ length (now (out .exit))) ⌝ }
+{
+    let e = put_words(out, input);
+    put(out, e, b"\n")
+}
