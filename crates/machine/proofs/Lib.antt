@@ -1,4 +1,5 @@
 pub mod Deliver
+pub mod Delivering
 pub mod Direct
 pub mod Fetching
 pub mod Retold

@@ -2,6 +2,7 @@
 use mathlib.Core.List.{List, [], _∷_}
 use mathlib.Core.Path.{_≡_}
 use Prim.Native.Nat.{ℕ, _+_, _<_, _≤_}
+use lib.Dec.{eqb}
 use lib.ListN.{length, getD}
 use Rattle.choice.specs.Choice.{pick, ask, asked}
 use Rattle.map.specs.Map.{mapLength}
@@ -13,7 +14,8 @@ use Rattle.machine.specs.declared.Fetched.{Fetched}
 use Rattle.word.specs.declared.Word.{Word}
 use Rattle.word.specs.declared.Word.the-variants.{Move, Add, And, Xor, XecRegister, XecBank, NztRegister, NztBank, Call, Ret, XmitRegister, XmitBank, Jmp, Invalid}
 use Rattle.machine.specs.declared.Fetched.the-variants.{Valid, Invalid as None}
-use Rattle.machine.specs.Shape.{Target}
+use Rattle.machine.specs.declared.act.Delivery.{Delivery}
+use Rattle.machine.specs.Shape.{Source, constant, Target, Shape, act, sourceOf, targetOf, placesOf}
 use Rattle.machine.specs.Step.{Outcome, wordCount, resultOf, actState, targetTrace, mayWrite, mayChoose, cameToStop}
 
 -- the state of a machine that is not stopped, from its sequencer, values, latches and call stack
@@ -100,6 +102,39 @@ delivered map op x target s =
     asked (ask 24 (mayWrite map target (s .values)) ∷ ask 25 (mayChoose map target (resultOf op (getD (s .values) 0 0) x)) ∷ [])
     (record { state = actState op x target s; trace = targetTrace target (actState op x target s) })
     (cameToStop s)
+
+-- An act as the code holds it: of kind 0 with a register or bank as its source, of kind 1 with XMIT's constant.
+abbrev pub deliveryOf : ℕ → ℕ → ℕ → ℕ → ℕ → ℕ → Delivery
+deliveryOf kind op s rl d i = record { kind = kind; op = op; s = s; rl = rl; d = d; i = i }
+
+abbrev pub operationOf : ℕ → ℕ → ℕ → ℕ → Delivery
+operationOf op s rl d = deliveryOf 0 op s rl d 0
+
+abbrev pub transmissionOf : ℕ → ℕ → ℕ → Delivery
+transmissionOf d l i = deliveryOf 1 0 0 l d i
+
+abbrev pub deliverySource : Delivery → Source
+deliverySource a = pick (eqb (a .kind) 1) (constant (a .i)) (sourceOf (a .s) (placesOf (a .rl) (a .d)) (a .rl))
+
+abbrev pub shapeOfDelivery : Delivery → Shape
+shapeOfDelivery a = act (deliverySource a) (a .op) (targetOf (a .d) (a .rl))
+
+-- a word that directs PC, or is invalid
+abbrev pub Directs : Word → Type 0
+Directs (Move s rl d) = ⊥
+Directs (Add s rl d) = ⊥
+Directs (And s rl d) = ⊥
+Directs (Xor s rl d) = ⊥
+Directs (XecRegister s i) = Unit
+Directs (XecBank s l i) = Unit
+Directs (NztRegister s i) = Unit
+Directs (NztBank s l i) = Unit
+Directs (Call i) = Unit
+Directs Ret = Unit
+Directs (XmitRegister d i) = ⊥
+Directs (XmitBank d l i) = ⊥
+Directs (Jmp a) = Unit
+Directs Invalid = Unit
 
 -- What a word needs to be executed: a map of its length, a PC inside an image of at most 8,192 words, a depth
 -- within the stack.

@@ -4,9 +4,9 @@ ghost use mathlib.Core.List.{List, [], _∷_};
 ghost use Prim.Native.Nat.{ℕ, _<_};
 ghost use lib.ListN.{length, getD};
 ghost use Rattle.map.specs.Map.{mapLength};
-ghost use Rattle.machine.specs.Shape.{slotOf, sourceOf, targetOf, slot, latch, bankOf, positionOf, placesOf, actShape};
+ghost use Rattle.machine.specs.Shape.{slotOf, sourceOf, targetOf, slot, latch, bankOf, positionOf, placesOf};
 ghost use Rattle.machine.specs.Step.{valueOf, resultOf, withOverflow, mayRead, wordStep};
-ghost use Rattle.machine.specs.Parts.{whole, outcome, actEffect, delivered, Ready};
+ghost use Rattle.machine.specs.Parts.{whole, outcome, actEffect, delivered, deliverySource, shapeOfDelivery, Ready};
 use crate::Effect;
 use crate::Sequencer;
 
@@ -155,7 +155,7 @@ fn to_latch(
 }
 
 // Delivers the source x to the target d, of length l in a bank.
-pub fn deliver(
+fn deliver(
     map: &[u8],
     op: usize,
     x: u8,
@@ -183,25 +183,56 @@ pub fn places(rl: usize, d: usize) -> usize
     if d < 16 { rl } else { 0 }
 }
 
-// MOVE, ADD, AND, XOR: opcode 0 to 3.
+// A word that delivers a source to a target: where kind is 0 the source s, where it is 1 the constant i; 2 is no such word.
+pub struct Delivery {
+    pub kind: usize,
+    pub op: usize,
+    pub s: usize,
+    pub rl: usize,
+    pub d: usize,
+    pub i: usize,
+}
+
+// Where the source is a bank: is the bank's address readable?
+fn may_take(map: &[u8], values: &[u8; 11], a: Delivery) -> bool
+    requires { ⌜ length (now map) ≡ mapLength ⌝ }
+    ensures { λ r. ⌜ r ≡ mayRead (now (map .entry)) (deliverySource a) (now (values .entry)) ⌝ }
+{
+    let kind = a.kind;
+    if kind == 1 {
+        return true;
+    }
+    may_read(map, values, a.s)
+}
+
+// The source.
+fn argument(values: &[u8; 11], left: u8, right: u8, a: Delivery) -> u8
+    requires { ⌜ (a .rl < 8) × (a .i < 256) ⌝ }
+    ensures { λ r. ⌜ r ≡ valueOf (deliverySource a) (now (values .entry)) (left ∷ right ∷ []) ⌝ }
+{
+    let kind = a.kind;
+    if kind == 1 {
+        return crate::narrow(a.i);
+    }
+    operand(values, left, right, a.s, places(a.rl, a.d), a.rl)
+}
+
+// MOVE, ADD, AND, XOR, XMIT.
 pub fn act(
     map: &[u8],
     left: u8,
     right: u8,
-    op: usize,
-    s: usize,
-    rl: usize,
-    d: usize,
+    a: Delivery,
     q: Sequencer,
     values: &mut [u8; 11],
     latches: &mut [u8; 2],
 ) -> Effect
-    requires { ⌜ Ready (now map) q × (rl < 8) ⌝ }
-    ensures { λ r. ⌜ ((t : List ℕ) → outcome r (now (values .exit)) (now (latches .exit)) t ≡ wordStep (now (map .entry)) (actShape op s rl d) (left ∷ right ∷ []) (whole q (now (values .entry)) (now (latches .entry)) t)) ⌝ }
+    requires { ⌜ Ready (now map) q × (a .rl < 8) × (a .i < 256) ⌝ }
+    ensures { λ r. ⌜ ((t : List ℕ) → outcome r (now (values .exit)) (now (latches .exit)) t ≡ wordStep (now (map .entry)) (shapeOfDelivery a) (left ∷ right ∷ []) (whole q (now (values .entry)) (now (latches .entry)) t)) ⌝ }
 {
-    if !may_read(map, values, s) {
+    if !may_take(map, values, a) {
         return crate::stop(q, 23);
     }
-    let x = operand(values, left, right, s, places(rl, d), rl);
-    deliver(map, op, x, d, rl, q, values, latches)
+    let x = argument(values, left, right, a);
+    deliver(map, a.op, x, a.d, a.rl, q, values, latches)
 }

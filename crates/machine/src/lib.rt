@@ -4,14 +4,15 @@ pub mod act;
 pub mod go;
 
 ghost use mathlib.Core.Path.{_≡_};
-ghost use Prim.Native.Nat.{ℕ, _+_, _*_, _<_};
+ghost use Prim.Native.Nat.{ℕ, _+_, _*_, _≤_, _<_};
 ghost use mathlib.Core.List.{List, [], _∷_};
 ghost use lib.Dec.{eqb};
 ghost use Rattle.choice.specs.Choice.{pick};
 ghost use Rattle.word.specs.Word.{InRange, decoded};
 ghost use Rattle.machine.specs.Shape.{shapeOf};
 ghost use Rattle.machine.specs.Step.{wordCount, wordAt, cameToStop, wordStep, stepped};
-ghost use Rattle.machine.specs.Parts.{whole, outcome, Ready, fetchedOf, Runs};
+ghost use Rattle.machine.specs.Parts.{whole, outcome, operationOf, transmissionOf, shapeOfDelivery, Directs, Ready, fetchedOf, Runs};
+use crate::act::Delivery;
 use word::Word;
 
 // PC, pending flag and address, depth.
@@ -50,33 +51,73 @@ pub(crate) fn stop(q: Sequencer, number: usize) -> Effect
     }
 }
 
-// Executes a word that is not invalid at the sequencer's PC.
-fn execute(
+// MOVE, ADD, AND, XOR: opcode 0 to 3.
+fn operation(op: usize, s: usize, rl: usize, d: usize) -> Delivery
+    ensures { λ r. ⌜ r ≡ operationOf op s rl d ⌝ }
+{
+    Delivery {
+        kind: 0,
+        op,
+        s,
+        rl,
+        d,
+        i: 0,
+    }
+}
+
+// XMIT.
+fn transmission(d: usize, l: usize, i: usize) -> Delivery
+    ensures { λ r. ⌜ r ≡ transmissionOf d l i ⌝ }
+{
+    Delivery {
+        kind: 1,
+        op: 0,
+        s: 0,
+        rl: l,
+        d,
+        i,
+    }
+}
+
+// The words that deliver a source to a target, all in one form.
+fn delivery_of(word: Word) -> Delivery
+    requires { ⌜ InRange word ⌝ }
+    ensures { λ r. ⌜ (r .rl < 8) × (r .i < 256) × (r .kind < 2 → shapeOf word ≡ shapeOfDelivery r) × (2 ≤ r .kind → Directs word) ⌝ }
+{
+    match word {
+        Word::Move { s, rl, d } => return operation(0, s, rl, d),
+        Word::Add { s, rl, d } => return operation(1, s, rl, d),
+        Word::And { s, rl, d } => return operation(2, s, rl, d),
+        Word::Xor { s, rl, d } => return operation(3, s, rl, d),
+        Word::XmitRegister { d, i } => return transmission(d, 0, i),
+        Word::XmitBank { d, l, i } => return transmission(d, l, i),
+        _ => {
+            return Delivery {
+                kind: 2,
+                op: 0,
+                s: 0,
+                rl: 0,
+                d: 0,
+                i: 0,
+            };
+        }
+    }
+}
+
+// The words that direct PC.
+fn go_on(
     word: Word,
     map: &[u8],
     left: u8,
     right: u8,
     q: Sequencer,
-    values: &mut [u8; 11],
-    latches: &mut [u8; 2],
+    values: &[u8; 11],
     returns: &mut [u16; 8],
 ) -> Effect
-    requires { ⌜ Ready (now map) q × InRange word ⌝ }
-    ensures { λ r. ⌜ outcome r (now (values .exit)) (now (latches .exit)) (now (returns .exit)) ≡ wordStep (now (map .entry)) (shapeOf word) (left ∷ right ∷ []) (whole q (now (values .entry)) (now (latches .entry)) (now (returns .entry))) ⌝ }
+    requires { ⌜ Ready (now map) q × InRange word × Directs word ⌝ }
+    ensures { λ r. ⌜ ((l : List ℕ) → outcome r (now (values .entry)) l (now (returns .exit)) ≡ wordStep (now (map .entry)) (shapeOf word) (left ∷ right ∷ []) (whole q (now (values .entry)) l (now (returns .entry)))) ⌝ }
 {
     match word {
-        Word::Move { s, rl, d } => {
-            return act::act(map, left, right, 0, s, rl, d, q, values, latches);
-        }
-        Word::Add { s, rl, d } => {
-            return act::act(map, left, right, 1, s, rl, d, q, values, latches);
-        }
-        Word::And { s, rl, d } => {
-            return act::act(map, left, right, 2, s, rl, d, q, values, latches);
-        }
-        Word::Xor { s, rl, d } => {
-            return act::act(map, left, right, 3, s, rl, d, q, values, latches);
-        }
         Word::XecRegister { s, i } => {
             return go::xec(map, left, right, s, 0, 256, i, q, values);
         }
@@ -95,22 +136,38 @@ fn execute(
         Word::Ret => {
             return go::ret(q, returns);
         }
-        Word::XmitRegister { d, i } => {
-            return act::deliver(map, 0, narrow(i), d, 0, q, values, latches);
-        }
-        Word::XmitBank { d, l, i } => {
-            return act::deliver(map, 0, narrow(i), d, l, q, values, latches);
-        }
         Word::Jmp { a } => {
             return go::go_to(a, q.depth);
         }
-        Word::Invalid => {
+        _ => {
             return stop(q, 22);
         }
     }
 }
 
-fn narrow(x: usize) -> u8
+// Executes a word at the sequencer's PC.
+fn execute(
+    word: Word,
+    map: &[u8],
+    left: u8,
+    right: u8,
+    q: Sequencer,
+    values: &mut [u8; 11],
+    latches: &mut [u8; 2],
+    returns: &mut [u16; 8],
+) -> Effect
+    requires { ⌜ Ready (now map) q × InRange word ⌝ }
+    ensures { λ r. ⌜ outcome r (now (values .exit)) (now (latches .exit)) (now (returns .exit)) ≡ wordStep (now (map .entry)) (shapeOf word) (left ∷ right ∷ []) (whole q (now (values .entry)) (now (latches .entry)) (now (returns .entry))) ⌝ }
+{
+    let a = delivery_of(word);
+    let kind = a.kind;
+    if kind < 2 {
+        return act::act(map, left, right, a, q, values, latches);
+    }
+    go_on(word, map, left, right, q, values, returns)
+}
+
+pub(crate) fn narrow(x: usize) -> u8
     requires { ⌜ x < 256 ⌝ }
     ensures { λ r. ⌜ r ≡ x ⌝ }
 {
