@@ -2,19 +2,19 @@
 use mathlib.Core.Path.{_≡_, refl, sym, ap, ap₂, _∙_}
 use mathlib.Core.Bool.{Bool, true, false, _&&_, _||_, not, or-false, true≢false, false≢true}
 use mathlib.Core.List.{List, [], _∷_, _++_}
-use Prim.Native.Nat.{ℕ, zero, suc, _+_, _-_, _*_, _/_, _%_, _^_, _≤_, _<_}
-use native.Mathlib.Nat.{mod-eq-of-lt, mod-lt}
+use Prim.Native.Nat.{ℕ, suc, _+_, _-_, _*_, _/_, _%_, _^_, _≤_, _<_}
+use native.Mathlib.Nat.{mod-eq-of-lt}
 use native.Mathlib.Omega.{arith}
-use lib.Dec.{leb, ltb, eqb}
+use lib.Dec.{ltb, eqb}
 use lib.Pow.{pow-mono}
-use borrow.Author.Tests.{lt-leb, le-leb, lt-ltb, le-ltb, ltb-false, eqb-true, eqb-false, eq-eqb, ne-eqb}
+use borrow.Author.Tests.{lt-leb, le-leb, lt-ltb, le-ltb, eqb-true, eqb-false, eq-eqb, ne-eqb}
 use Rattle.choice.specs.Choice.{pick}
 use Rattle.field.specs.Field.{widthOf}
 use Rattle.machine.specs.Shape.{Source, register, slotOf, sourceOf, defer, Shape, go, shapeOf}
 use Rattle.machine.specs.Step.{wordCount, wordAt, shapeAt, inPage}
 use Rattle.machine.specs.Parts.{IsPage}
 use Rattle.facts.specs.Facts.{unknown, sourceFact, Span, spanOf}
-use Rattle.transfer.specs.Passes.{over, gives, pageAddress, canBeExecuted, isDefer, isCall, isReturn, some, wordsAt, isCallSite}
+use Rattle.transfer.specs.Passes.{over, gives, pageAddress, canBeExecuted, isCall, isReturn, some, wordsAt}
 use Rattle.word.specs.declared.Word.{Word}
 use Rattle.word.specs.Word.{decoded}
 use Rattle.callers.specs.declared.Values.{Values}

@@ -1,5 +1,5 @@
 -- The place of a cell in the table, depth × N + address: inside the table, and its depth and address from it.
-use mathlib.Core.Path.{_≡_, sym, ap, _∙_}
+use mathlib.Core.Path.{_≡_, ap, _∙_}
 use Prim.Native.Nat.{ℕ, _+_, _*_, _/_, _%_, _≤_, _<_}
 use native.Mathlib.Nat.{mul-le-mul, le-refl, add-mul-mod-self-right, mul-add-div-right, div-eq-of-lt, mod-eq-of-lt}
 use native.Mathlib.Omega.{arith}

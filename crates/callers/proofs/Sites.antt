@@ -1,5 +1,5 @@
 -- A call site: the cell as it is loaded, and the word there.
-use mathlib.Core.Path.{_≡_, refl, sym, ap, _∙_, subst}
+use mathlib.Core.Path.{_≡_, refl, ap, _∙_}
 use mathlib.Core.Bool.{Bool, true, false, _&&_, not, true≢false, false≢true}
 use mathlib.Core.List.{List}
 use Prim.Native.Nat.{ℕ, _≤_, _<_}
@@ -10,7 +10,7 @@ use Rattle.machine.specs.Shape.{shapeOf}
 use Rattle.machine.specs.Step.{wordCount, wordAt, shapeAt}
 use Rattle.facts.specs.declared.Cell.{Cell}
 use Rattle.facts.specs.Facts.{unknown}
-use Rattle.facts.specs.Record.{cellAt, FineCell}
+use Rattle.facts.specs.Record.{cellAt}
 use Rattle.transfer.specs.Passes.{pointAt, isCall, some, wordsAt, isCallSite}
 use Rattle.callers.specs.Callers.{Held}
 use Rattle.callers.proofs.Points.{point-inside}

@@ -1,7 +1,7 @@
 -- What the code asks of an image, of an XEC and of a lent table, and the values of a source as the code holds them.
 use mathlib.Core.Path.{_≡_}
 use mathlib.Core.List.{List}
-use Prim.Native.Nat.{ℕ, _+_, _*_, _≤_, _<_}
+use Prim.Native.Nat.{ℕ, _*_, _≤_, _<_}
 use lib.ListN.{length}
 use Rattle.machine.specs.Step.{wordCount}
 use Rattle.facts.specs.Facts.{Span}

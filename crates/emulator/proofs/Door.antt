@@ -2,7 +2,7 @@
 use mathlib.Core.Bool.{true, false}
 use mathlib.Core.List.{List}
 use mathlib.Core.Path.{_≡_, sym, ap, _∙_}
-use Prim.Native.Nat.{ℕ, _*_, _/_, _%_, _≤_}
+use Prim.Native.Nat.{ℕ, _*_, _%_, _≤_}
 use native.Mathlib.Omega.{arith}
 use borrow.Author.Tests.{leb-true, eq-eqb, ne-eqb}
 use lib.Dec.{leb, eqb}
@@ -17,7 +17,7 @@ use Rattle.machine.specs.Step.{wordCount}
 use Rattle.machine.specs.Parts.{whole}
 use Rattle.emulator.specs.declared.Last.{Last}
 use Rattle.emulator.specs.declared.RunAnswer.the-variants.{Refused, Ended}
-use Rattle.emulator.specs.Run.{pairLength, pairCount, recordLength, Ran, ranOver, imageFits, stateFits, RunResult, yielded, refused, ended, runResult}
+use Rattle.emulator.specs.Run.{pairLength, pairCount, recordLength, Ran, ranOver, imageFits, stateFits, RunResult, yielded, ended, runResult}
 use Rattle.emulator.specs.Parts.{lastState, ranTo, laid, Accepted}
 use Rattle.emulator.proofs.Going.{ran-stopped}
 

@@ -4,11 +4,11 @@ use mathlib.Core.Bool.{Bool, true, false, false≢true}
 use mathlib.Core.List.{List}
 use Prim.Native.Nat.{ℕ, _+_, _≤_, _<_}
 use native.Mathlib.Omega.{arith}
-use lib.ListN.{length, getD, replicate}
+use lib.ListN.{getD}
 use Rattle.choice.specs.Choice.{pick}
 use Rattle.choice.proofs.Laws.{and-first, and-second}
 use Rattle.facts.specs.declared.Cell.{Cell}
-use Rattle.facts.specs.Facts.{factCount, unknown, allKnowNoMore, joinFacts, knownCount}
+use Rattle.facts.specs.Facts.{unknown, allKnowNoMore, joinFacts, knownCount}
 use Rattle.facts.specs.Record.{cellOf, holdsCell, joinCell, cellWeight, FineCell}
 use Rattle.facts.proofs.Order.{all-refl, all-trans, all-antisym, all-join-left, all-join-right, all-join-least, join-length, join-at, join-bound, known-falls, known-bound}
 

@@ -1,23 +1,23 @@
 -- What a word makes of facts: it knows no more where the facts know no more, and keeps the layout.
 use mathlib.Core.Path.{_≡_, refl, sym, _∙_, ap, subst}
-use mathlib.Core.Bool.{Bool, true, false, _&&_, _||_, not, and-false}
-use mathlib.Core.List.{List, [], _∷_}
-use Prim.Native.Nat.{ℕ, _+_, _-_, _%_, _^_, _≤_, _<_}
+use mathlib.Core.Bool.{Bool, true, false, _&&_, _||_, and-false}
+use mathlib.Core.List.{List}
+use Prim.Native.Nat.{ℕ, _+_, _-_, _^_, _≤_, _<_}
 use native.Mathlib.Omega.{arith}
 use native.Mathlib.Decide.{ℕ-discrete}
-use lib.Dec.{leb, ltb, eqb}
+use lib.Dec.{ltb, eqb}
 use lib.ListN.{length, getD, set, length-set}
 use lib.Seq.{getD-set-same, getD-set-other, set-out}
-use borrow.Author.Tests.{eqb-true, eqb-false, eq-eqb, ne-eqb, ltb-true, ltb-false, lt-ltb, le-leb, leb-true, not-true}
+use borrow.Author.Tests.{eqb-false, eq-eqb, ltb-true, ltb-false, not-true}
 use Rattle.choice.specs.Choice.{pick}
-use Rattle.choice.proofs.Laws.{pick-cases, and-both, and-first, and-second, or-cases}
+use Rattle.choice.proofs.Laws.{pick-cases, and-first, and-second}
 use lib.Pow.{pow-mono}
-use Rattle.field.specs.Field.{rotateRight, widthOf, sumOf, carryOf, andOf, xorOf}
-use Rattle.field.proofs.Laws.{rotate-lt, sum-lt, and-byte, xor-byte, carry-lt}
+use Rattle.field.specs.Field.{rotateRight, widthOf, sumOf, andOf, xorOf}
+use Rattle.field.proofs.Laws.{rotate-lt, sum-lt, and-byte, xor-byte}
 use Rattle.state.specs.State.{overflowSlot}
 use Rattle.machine.specs.Shape.{Source, register, bank, constant, Target, slot, latch}
 use Rattle.machine.specs.Step.{resultOf}
-use Rattle.facts.specs.Facts.{factCount, unknown, isKnown, knowsNoMore, allKnowNoMore, sourceFact, resultFact, carryFact, withCarryFact, putFact, factsAfter, Span, factSpan, spanOf, holds, mayBeZero, mayBeOther}
+use Rattle.facts.specs.Facts.{factCount, unknown, isKnown, knowsNoMore, allKnowNoMore, sourceFact, resultFact, carryFact, withCarryFact, factsAfter, Span, factSpan, spanOf}
 use Rattle.facts.proofs.Order.{no-more-unknown, no-more-same, no-more-cases, all-at, all-from}
 
 -- a register is rotated by less than 8 places, a length is below 8, a constant is a byte

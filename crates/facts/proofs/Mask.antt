@@ -1,16 +1,15 @@
 -- The mask of bytes 2-3 tells which facts are known, and a record is read back as the cell that it was made of.
-use mathlib.Core.Path.{_≡_, refl, sym, _∙_, ap}
-use mathlib.Core.Bool.{Bool, true, false, not}
+use mathlib.Core.Path.{_≡_, refl, sym, _∙_}
+use mathlib.Core.Bool.{Bool, true, false}
 use mathlib.Core.List.{List, [], _∷_, _++_, map}
-use Prim.Native.Nat.{ℕ, zero, suc, _+_, _*_, _/_, _%_, _^_, _≤_, _<_, suc-le-suc}
+use Prim.Native.Nat.{ℕ, zero, suc, _+_, _*_, _/_, _%_, _^_, _<_, suc-le-suc}
 use native.Mathlib.Omega.{arith}
 use native.Mathlib.Nat.{zero-div, le-of-suc-le-suc, not-suc-le-zero, add-comm, add-zero, zero-add, add-suc, suc-add, suc-ne-zero, suc-inj}
 use native.Mathlib.Numerals.{one-add, add-four}
 use lib.Dec.{eqb}
 use lib.Pow.{shr-shr}
 use lib.ListN.{length, getD, length-append, length-map, List·getD-append}
-use lib.Seq.{ext-getD}
-use borrow.Author.Tests.{eqb-true, eq-eqb, ne-eqb}
+use borrow.Author.Tests.{eqb-true}
 use Rattle.choice.specs.Choice.{pick}
 use Rattle.choice.proofs.Laws.{pick-cases}
 use Rattle.facts.specs.declared.Cell.{Cell}

@@ -1,7 +1,7 @@
 -- Facts ("The table of facts" of document 01): what is known of the eleven values at a point of the program.
 -- Everything above uses them through what stands here: the facts of reset, which values a fact allows, the order, the
 -- join, what a word makes of facts, and the span of values that a source may have.
-use mathlib.Core.Bool.{Bool, true, false, _&&_, _||_, not}
+use mathlib.Core.Bool.{Bool, true, _&&_, _||_, not}
 use mathlib.Core.List.{List, [], _∷_}
 use Prim.Native.Nat.{ℕ, _+_, _^_}
 use lib.Dec.{leb, ltb, eqb}

@@ -1,8 +1,8 @@
 -- Demand 3 for every closed table, and so for the least one.
-use mathlib.Core.Path.{_≡_, refl, sym, _∙_, ap, subst, subst⁻¹}
+use mathlib.Core.Path.{_≡_, refl, _∙_, ap, subst, subst⁻¹}
 use mathlib.Core.Bool.{Bool, true, false, _&&_, false≢true}
-use mathlib.Core.List.{List, [], _∷_, _++_}
-use Prim.Native.Nat.{ℕ, zero, suc, _+_, _*_, _/_, _%_, _≤_, _<_}
+use mathlib.Core.List.{List, [], _∷_}
+use Prim.Native.Nat.{ℕ, zero, suc, _%_, _≤_, _<_}
 use native.Mathlib.Omega.{arith}
 use lib.Dec.{eqb, leb}
 use lib.ListN.{length, getD}
@@ -11,21 +11,21 @@ use Rattle.choice.specs.Choice.{pick, firstNo}
 use Rattle.choice.proofs.Laws.{and-both, and-first, and-second}
 use Rattle.map.specs.Map.{mapLength}
 use Rattle.state.specs.declared.State.{State}
-use Rattle.state.specs.State.{stateLength, Sized, Formed, loaded, stored, wellFormed, resetBytes, zeroState}
+use Rattle.state.specs.State.{stateLength, stored, wellFormed, zeroState}
 use Rattle.state.proofs.Laws.{stored-length}
-use Rattle.state.proofs.RoundTrip.{store-then-load, reset-loaded, reset-stored}
+use Rattle.state.proofs.RoundTrip.{store-then-load, reset-stored}
 use Rattle.state.proofs.WellFormed.{formed}
 use Rattle.machine.specs.Step.{wordCount, stepQuestions, stepped}
 use Rattle.machine.proofs.Keeps.{step-formed}
-use Rattle.emulator.specs.declared.RunAnswer.the-variants.{Refused, Ended}
-use Rattle.emulator.specs.Run.{Ran, RunResult, pairLength, pairCount, imageFits, stateFits, recordingFits, traceFits, ranOver, refused as refusedRun, ended, runResult}
-use Rattle.flow.specs.Flow.{Closed, Least}
-use Rattle.facts.specs.Record.{depths, resetCell, Layout}
+use Rattle.emulator.specs.declared.RunAnswer.the-variants.{Ended}
+use Rattle.emulator.specs.Run.{RunResult, pairCount, imageFits, stateFits, recordingFits, traceFits, ranOver, refused as refusedRun, ended, runResult}
+use Rattle.flow.specs.Flow.{Closed}
+use Rattle.facts.specs.Record.{resetCell}
 use Rattle.transfer.specs.Passes.{tableSpace, leastTable}
 use Rattle.transfer.specs.Findings.{NoFinding}
 use Rattle.transfer.proofs.TableLaws.{least-table}
 use Rattle.guarantee.specs.Safe.{Safe}
-use Rattle.guarantee.specs.Demand.{Bytes, Job, Steps, ends, goes, Executes, Fault, odd, short, TurnedAway, Flawless, finished, executes, refused, Demand}
+use Rattle.guarantee.specs.Demand.{Bytes, Job, Steps, ends, goes, Fault, odd, short, Flawless, finished, executes, refused, Demand}
 use Rattle.guarantee.proofs.StepSafe.{step-safe}
 use Rattle.guarantee.proofs.ResetSafe.{reset-safe}
 

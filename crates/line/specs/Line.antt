@@ -1,6 +1,6 @@
 -- The line that the bench program prints ("The bench program" of document 01), as bytes of ASCII.
 use mathlib.Core.List.{List, [], _∷_, _++_}
-use Prim.Native.Nat.{ℕ, _+_, _*_, _/_, _%_}
+use Prim.Native.Nat.{ℕ, _+_, _/_, _%_}
 use lib.Dec.{leb, ltb}
 use lib.ListN.{length, take, drop}
 use Rattle.choice.specs.Choice.{pick, Question, ask, asked}

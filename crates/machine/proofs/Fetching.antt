@@ -3,22 +3,19 @@ use mathlib.Core.Path.{_≡_, refl, subst}
 use mathlib.Core.Bool.{Bool, true, false}
 use mathlib.Core.List.{List, [], _∷_}
 use mathlib.Core.Logic.{⊎-elim}
-use Prim.Native.Nat.{ℕ, _+_, _*_, _/_, _≤_, _<_}
+use Prim.Native.Nat.{ℕ, _+_, _*_, _≤_, _<_}
 use native.Mathlib.Omega.{arith}
 use lib.Dec.{eqb}
-use lib.ListN.{getD}
 use borrow.Author.Tests.{lt-ltb, le-ltb, eqb-true}
 use types.Run.{OneOf}
 use denote.Enum.Declared.{tagOf}
 use Rattle.word.proofs.Word.{the-type}
 use Rattle.choice.specs.Choice.{pick}
-use Rattle.choice.proofs.Laws.{pick-cases}
 use Rattle.word.specs.declared.Word.{Word}
 use Rattle.word.specs.declared.Word.the-variants.{Move, Add, And, Xor, XecRegister, XecBank, NztRegister, NztBank, Call, Ret, XmitRegister, XmitBank, Jmp, Invalid}
 use Rattle.word.specs.Word.{decoded, InRange}
 use Rattle.word.proofs.Laws.{decoded-in-range}
 use Rattle.state.specs.declared.State.{State}
-use Rattle.machine.specs.declared.Fetched.{Fetched}
 use Rattle.machine.specs.declared.Fetched.the-variants.{Valid, Invalid as None}
 use Rattle.machine.specs.Shape.{invalid, shapeOf}
 use Rattle.machine.specs.Step.{Outcome, wordCount, wordAt, fetchAddress, cameToStop, wordStep, stepped}

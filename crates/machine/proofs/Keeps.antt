@@ -1,19 +1,19 @@
 -- What a step keeps: a well-formed, sized state stays so and its trace record is four bytes; a register that the word
 -- does not write keeps its value; the stop number afterwards is the first no. Assumes nothing.
-use mathlib.Core.Bool.{Bool, true, false}
+use mathlib.Core.Bool.{true}
 use mathlib.Core.List.{List, [], _∷_}
-use mathlib.Core.Logic.{_⊎_, inl, inr}
+use mathlib.Core.Logic.{inr}
 use mathlib.Core.Path.{_≡_, refl, sym, ap, _∙_}
-use Prim.Native.Nat.{ℕ, zero, suc, _+_, _-_, _*_, _/_, _%_, _<_, _≤_}
+use Prim.Native.Nat.{ℕ, zero, suc, _+_, _-_, _*_, _<_, _≤_}
 use native.Mathlib.Decide.{ℕ-discrete, decLt}
 use native.Mathlib.Omega.{arith}
 use borrow.Author.Tests.{ltb-true, eqb-true, lt-ltb}
 use lib.Dec.{leb, ltb, eqb}
 use lib.ListN.{length, getD, set, length-set}
 use lib.Seq.{getD-set-same, getD-set-other}
-use Rattle.choice.specs.Choice.{pick, Question, ask, asked, firstNo}
+use Rattle.choice.specs.Choice.{firstNo}
 use Rattle.choice.proofs.Laws.{pick-both, pick-cases, asked-holds, asked-beside}
-use Rattle.field.specs.Field.{sumOf, carryOf, andOf, xorOf, mergeInto}
+use Rattle.field.specs.Field.{carryOf, mergeInto}
 use Rattle.field.proofs.Laws.{rotate-lt, field-lt, merge-lt, sum-lt, carry-lt, and-byte, xor-byte}
 use Rattle.state.specs.declared.State.{State}
 use Rattle.state.specs.State.{overflowSlot, stackPlaces, Below, Sized, Formed}

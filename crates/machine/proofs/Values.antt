@@ -2,7 +2,7 @@
 -- State not named is as after reset, and every map bit is one.
 use mathlib.Core.Path.{_≡_, refl}
 use mathlib.Core.List.{List, [], _∷_}
-use Prim.Native.Nat.{ℕ, _+_, _-_, _*_, _/_, _%_, _^_}
+use Prim.Native.Nat.{ℕ, _-_}
 use lib.ListN.{getD, set, replicate}
 use Rattle.field.specs.Field.{rotateRight, lowBits, fieldOf, mergeInto}
 use Rattle.word.specs.Word.{decoded}

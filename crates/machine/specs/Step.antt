@@ -4,9 +4,8 @@ use mathlib.Core.List.{List, [], _∷_}
 use Prim.Native.Nat.{ℕ, _+_, _-_, _*_, _/_, _%_}
 use lib.Dec.{leb, ltb, eqb}
 use lib.ListN.{length, getD, set}
-use Rattle.choice.specs.Choice.{pick, Question, ask, asked, firstNo}
+use Rattle.choice.specs.Choice.{pick, Question, ask, asked}
 use Rattle.field.specs.Field.{rotateRight, fieldOf, mergeInto, sumOf, carryOf, andOf, xorOf}
-use Rattle.word.specs.declared.Word.{Word}
 use Rattle.word.specs.Word.{decoded}
 use Rattle.map.specs.Map.{readable, writable, listed}
 use Rattle.state.specs.declared.State.{State}

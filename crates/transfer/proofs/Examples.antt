@@ -1,14 +1,14 @@
 -- The definitions at small programs: the table after a few sweeps, that one more changes nothing, and its findings.
 use mathlib.Core.Path.{_≡_, refl}
-use mathlib.Core.Bool.{Bool, true, false}
+use mathlib.Core.Bool.{Bool, false}
 use mathlib.Core.List.{List, [], _∷_}
 use Prim.Native.Nat.{ℕ, zero, suc}
 use lib.ListN.{replicate, set}
-use Rattle.field.specs.Field.{rotateRight, lowBits, fieldOf, mergeInto}
+use Rattle.field.specs.Field.{rotateRight}
 use Rattle.word.specs.Word.{decoded}
 use Rattle.map.specs.Map.{inSet}
 use Rattle.machine.specs.Shape.{shapeOf, slotOf}
-use Rattle.machine.specs.Step.{resultOf, wordCount}
+use Rattle.machine.specs.Step.{resultOf}
 use Rattle.flow.specs.Flow.{joinAll, changesAll, sweepFrom, sweepChangesFrom, sweeps, sweepChanges}
 use Rattle.facts.specs.Facts.{allKnowNoMore, joinFacts, resultFact, carryFact, withCarryFact}
 use Rattle.facts.specs.Record.{holdsCell, joinCell, maskOf, recordOf, readCell, cellAt, putRecord}

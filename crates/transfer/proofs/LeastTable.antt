@@ -6,7 +6,7 @@ use Prim.Native.Nat.{ℕ, _*_, _≤_, _<_}
 use native.Mathlib.Nat.{le-trans}
 use lib.ListN.{getD}
 use Rattle.machine.specs.Step.{wordCount}
-use Rattle.flow.specs.Flow.{Below, Closed, Least, Filled, sweep, sweeps, sweepChanges, sumWeights}
+use Rattle.flow.specs.Flow.{Below, Closed, Least, Filled, sweep, sweepChanges, sumWeights}
 use Rattle.flow.proofs.Grows.{sweep-below}
 use Rattle.flow.proofs.Still.{still-closed}
 use Rattle.flow.proofs.Weights.{sweep-falls}

@@ -1,25 +1,23 @@
 -- The fields of a word that is read, as its shape has them: a register is rotated by less than 8 places, and an XEC's
 -- source has no more values than its page has addresses. So an XEC gives the address at a place that its span gives.
-use mathlib.Core.Path.{_≡_, refl, sym, ap, subst, _∙_}
-use mathlib.Core.Bool.{Bool, true, false}
+use mathlib.Core.Path.{_≡_, sym, ap, subst, _∙_}
+use mathlib.Core.Bool.{true, false}
 use mathlib.Core.List.{List}
-use Prim.Native.Nat.{ℕ, _+_, _-_, _*_, _/_, _%_, _^_, _≤_, _<_}
+use Prim.Native.Nat.{ℕ, _+_, _-_, _*_, _%_, _^_, _≤_, _<_}
 use native.Mathlib.Nat.{mod-lt, mod-eq-of-lt, mod-add-mod, add-mod-right}
 use native.Mathlib.Omega.{arith}
 use lib.Dec.{leb, ltb, eqb}
 use lib.Pow.{pow-mono}
 use lib.ListN.{getD}
-use borrow.Author.Tests.{leb-true, leb-false, ltb-true, eqb-true, lt-leb, le-leb, lt-ltb, ne-eqb}
-use Rattle.choice.specs.Choice.{pick}
-use Rattle.choice.proofs.Laws.{pick-both, pick-cases, and-first, and-second}
-use Rattle.field.specs.Field.{widthOf}
+use borrow.Author.Tests.{leb-true, ltb-true, lt-leb, le-leb, lt-ltb, ne-eqb}
+use Rattle.choice.proofs.Laws.{pick-both, and-first, and-second}
 use Rattle.word.specs.declared.Word.{Word}
 use Rattle.word.specs.declared.Word.the-variants.{Move, Add, And, Xor, XecRegister, XecBank, NztRegister, NztBank, Call, Ret, XmitRegister, XmitBank, Jmp, Invalid}
 use Rattle.word.specs.Word.{InRange, decoded}
 use Rattle.word.proofs.Laws.{source-low, bank-range, decoded-in-range}
-use Rattle.machine.specs.Shape.{Source, register, bank, constant, Control, jump, branch, defer, call, return, Shape, act, go, invalid, shapeOf, sourceOf, slotOf, bankOf, positionOf, placesOf}
+use Rattle.machine.specs.Shape.{Source, register, Control, jump, branch, defer, call, return, Shape, act, go, invalid, shapeOf, sourceOf, slotOf, placesOf}
 use Rattle.machine.specs.Step.{wordAt, shapeAt}
-use Rattle.facts.specs.Facts.{isKnown, Span, factSpan, sourceFact, spanOf, holds}
+use Rattle.facts.specs.Facts.{isKnown, Span, sourceFact, spanOf, holds}
 use Rattle.facts.proofs.Makes.{SourceFits}
 use Rattle.transfer.specs.Passes.{gives}
 

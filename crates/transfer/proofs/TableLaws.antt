@@ -1,34 +1,34 @@
 -- The table of facts obeys the laws of a space that is filled by sweeps, so that its least table is computed by them.
 use mathlib.Core.Path.{_≡_, refl, sym, _∙_, ap, subst, subst⁻¹}
-use mathlib.Core.Bool.{Bool, true, false, _&&_, false≢true}
-use mathlib.Core.List.{List, [], _∷_, _++_}
+use mathlib.Core.Bool.{true, false, _&&_, false≢true}
+use mathlib.Core.List.{List, []}
 use Prim.Native.Nat.{ℕ, zero, suc, _+_, _-_, _*_, _/_, _%_, _≤_, _<_}
 use native.Mathlib.Omega.{arith}
-use native.Mathlib.Nat.{mod-lt, div-lt-iff-lt-mul, le-of-eq, le-trans}
+use native.Mathlib.Nat.{mod-lt, div-lt-iff-lt-mul, le-of-eq}
 use lib.Dec.{ltb}
 use lib.Arith.{digits-lt}
-use lib.ListN.{length, getD, take, drop, replicate, length-replicate, getD-replicate}
+use lib.ListN.{getD, replicate, length-replicate, getD-replicate}
 use lib.Seq.{ext-getD}
 use borrow.Author.Tests.{ltb-true}
 use Rattle.choice.specs.Choice.{pick}
 use Rattle.choice.proofs.Laws.{and-both, and-first, and-second}
 use Rattle.state.specs.State.{stackPlaces}
-use Rattle.machine.specs.Shape.{Source, Control, jump, branch, defer, call, return, Shape, act, go, invalid}
+use Rattle.machine.specs.Shape.{jump, branch, defer, call, return, Shape, act, go, invalid}
 use Rattle.machine.specs.Step.{wordCount, shapeAt, inPage}
-use Rattle.flow.specs.Flow.{Pass, Space, Below, Least, Closed, allCovered, sumWeights, sweeps, Filled, sweepCount}
+use Rattle.flow.specs.Flow.{Pass, Below, Least, sumWeights}
 use Rattle.flow.proofs.Each.{Each, none, also, each-append}
 use Rattle.flow.proofs.Lawful.{Lawful, Fits}
 use Rattle.flow.proofs.Grows.{Covered, each-covered, covered-each}
 use Rattle.flow.proofs.Weights.{sumWeights-bound}
-use Rattle.flow.proofs.Fixpoint.{Begins, begins-empty, sweeps-least, least-unique}
+use Rattle.flow.proofs.Fixpoint.{Begins, begins-empty, sweeps-least}
 use Rattle.facts.specs.declared.Cell.{Cell}
 use Rattle.facts.specs.Facts.{unknown, spanOf, mayBeZero, mayBeOther, factsAfter, allKnowNoMore}
-use Rattle.facts.specs.Record.{recordSize, depths, cellOf, unreached, resetCell, holdsCell, cellWeight, recordOf, maskOf, readCell, cellAt, putCell, FineCell, Layout}
+use Rattle.facts.specs.Record.{recordSize, depths, cellOf, unreached, resetCell, holdsCell, recordOf, maskOf, readCell, cellAt, putCell, FineCell, Layout}
 use Rattle.facts.proofs.Cells.{holds-refl, holds-trans, holds-antisym, join-holds-left, join-holds-right, join-held, join-fine, join-falls, weight-bound, reached-above, known-above}
 use Rattle.facts.proofs.Records.{part, part-at, part-length, stored-cell, other-cell, put-layout, same-table}
 use Rattle.facts.proofs.Makes.{FineFacts, after-fine}
-use Rattle.transfer.specs.Passes.{over, pointAt, toward, isReturn, isCall, wordsAt, some, wordPasses, allPasses, isCallSite, returnPasses, cellPasses, passesFrom, tableSpace, tableLength, startTable, leastTable}
-use Rattle.transfer.proofs.Membership.{In, each-left, each-right, each-picked, each-overDown, each-pick, over-each, down-each}
+use Rattle.transfer.specs.Passes.{pointAt, toward, isReturn, isCall, wordsAt, some, wordPasses, allPasses, isCallSite, returnPasses, cellPasses, passesFrom, tableSpace, tableLength, startTable, leastTable}
+use Rattle.transfer.proofs.Membership.{each-left, each-right, each-picked, each-overDown, each-pick, over-each, down-each}
 use Rattle.transfer.proofs.Ranges.{ShapeFits, shape-at-fits}
 use Rattle.transfer.proofs.Wider.{words-wider, words-fit, some-wider, toward-wider, word-wider, passes-at, passes-from}
 

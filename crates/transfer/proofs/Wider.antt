@@ -1,29 +1,29 @@
 -- Facts that know no more pass on at least as much: the words that a cell executes, its call sites, and what each word
 -- passes on.
-use mathlib.Core.Path.{_≡_, refl, sym, _∙_, ap, subst}
-use mathlib.Core.Bool.{Bool, true, false, _&&_, _||_, not, false≢true}
-use mathlib.Core.List.{List, [], _∷_, _++_}
-use Prim.Native.Nat.{ℕ, zero, suc, _+_, _-_, _*_, _/_, _%_, _≤_, _<_}
+use mathlib.Core.Path.{_≡_, refl, sym, _∙_}
+use mathlib.Core.Bool.{Bool, true, false, _&&_}
+use mathlib.Core.List.{List, [], _∷_}
+use Prim.Native.Nat.{ℕ, _+_, _-_, _*_, _%_, _≤_, _<_}
 use native.Mathlib.Omega.{arith}
 use native.Mathlib.Nat.{mod-lt, lt-of-lt-of-le}
-use lib.Dec.{leb, ltb, eqb}
-use lib.ListN.{length, getD}
+use lib.Dec.{ltb}
+use lib.ListN.{getD}
 use borrow.Author.Tests.{lt-ltb}
 use Rattle.choice.specs.Choice.{pick}
 use Rattle.choice.proofs.Laws.{and-both, and-first, and-second}
 use Rattle.state.specs.State.{stackPlaces}
-use Rattle.machine.specs.Shape.{Source, Target, Control, jump, branch, defer, call, return, Shape, act, go, invalid}
-use Rattle.machine.specs.Step.{wordCount, shapeAt, inPage}
+use Rattle.machine.specs.Shape.{Source, jump, branch, defer, call, return, Shape, act, go, invalid}
+use Rattle.machine.specs.Step.{shapeAt, inPage}
 use Rattle.flow.specs.Flow.{Pass}
 use Rattle.flow.proofs.Each.{Each, none, also, each-append}
 use Rattle.flow.proofs.Grows.{Covered}
 use Rattle.facts.specs.declared.Cell.{Cell}
-use Rattle.facts.specs.Facts.{allKnowNoMore, Span, spanOf, mayBeZero, mayBeOther, factsAfter}
+use Rattle.facts.specs.Facts.{allKnowNoMore, spanOf, mayBeZero, mayBeOther, factsAfter}
 use Rattle.facts.specs.Record.{cellOf, holdsCell, cellAt}
-use Rattle.facts.proofs.Cells.{holds-trans, reached-above, known-above}
+use Rattle.facts.proofs.Cells.{holds-trans}
 use Rattle.facts.proofs.Makes.{FineFacts, after-no-more, span-cases, span-bytes}
-use Rattle.transfer.specs.Passes.{over, overDown, pointAt, toward, isCall, isReturn, gives, pageAddress, canBeExecuted, wordsAt, some, wordPasses, allPasses, isCallSite, returnPasses, cellPasses, tableSpace}
-use Rattle.transfer.proofs.Membership.{In, first, later, each-at, each-left, each-right, each-picked, each-over, each-overDown, each-pick, over-each, down-each, in-over, in-one, over-in, some-in, some-out}
+use Rattle.transfer.specs.Passes.{over, pointAt, toward, gives, pageAddress, canBeExecuted, wordsAt, some, wordPasses, allPasses, tableSpace}
+use Rattle.transfer.proofs.Membership.{In, first, later, each-left, each-right, each-picked, each-over, each-pick, over-each, in-over, in-one, over-in, some-in, some-out}
 use Rattle.transfer.proofs.Ranges.{PageFits, ShapeFits, shape-at-fits}
 
 -- ---- the words that a cell executes

@@ -11,8 +11,8 @@ use Rattle.state.specs.State.{stackPlaces, addressSlot}
 use Rattle.machine.specs.Shape.{Source, register, bank, constant, Target, slot, latch, Control, jump, branch, defer, call, return, Shape, act, go, invalid}
 use Rattle.machine.specs.Step.{wordCount, shapeAt, inPage}
 use Rattle.facts.specs.Facts.{unknown, isKnown, Span, spanOf, mayBeZero, mayBeOther, sourceFact, resultFact}
-use Rattle.facts.specs.Record.{depths, recordOf, cellAt, putRecord}
-use Rattle.transfer.specs.Passes.{over, overDown, pointAt, isDefer, pageAddress, gives, isCallSite}
+use Rattle.facts.specs.Record.{depths, cellAt}
+use Rattle.transfer.specs.Passes.{over, isDefer, pageAddress, gives, isCallSite}
 
 -- 2. "Read: is the address known? 28. Readable? 23"
 abbrev pub readQuestions : List ℕ → Source → List ℕ → List Question

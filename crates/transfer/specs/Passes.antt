@@ -7,7 +7,7 @@ use lib.Dec.{ltb}
 use lib.ListN.{replicate}
 use Rattle.choice.specs.Choice.{pick}
 use Rattle.state.specs.State.{stackPlaces}
-use Rattle.machine.specs.Shape.{Source, Target, Control, jump, branch, defer, call, return, Shape, act, go, invalid}
+use Rattle.machine.specs.Shape.{jump, branch, defer, call, return, Shape, act, go, invalid}
 use Rattle.machine.specs.Step.{wordCount, shapeAt, inPage}
 use Rattle.flow.specs.Flow.{Pass, Space, sweeps}
 use Rattle.facts.specs.declared.Cell.{Cell}

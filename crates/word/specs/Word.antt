@@ -1,6 +1,6 @@
 -- The word ("The word" of document 01). Register numbers are octal there: 07 is 7, 10 is 8, 11 is 9,
 -- 17 is 15, 20-27 is 16-23, 30-37 is 24-31.
-use mathlib.Core.Bool.{Bool, true, false, _&&_, _||_}
+use mathlib.Core.Bool.{Bool, true, _&&_, _||_}
 use mathlib.Core.List.{List, [], _∷_}
 use mathlib.Core.Path.{_≡_}
 use Prim.Native.Nat.{ℕ, _+_, _*_, _/_, _%_, _<_, _≤_}

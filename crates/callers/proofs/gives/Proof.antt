@@ -1,6 +1,5 @@
 -- `callers::gives` meets its contract. Assumes nothing.
 use native.Mathlib.Omega.{arith}
-use mathlib.Core.Path.{ap}
 use Rattle.callers.proofs.Executing.{page-most, gives-told}
 use borrow.Author.Needs.{needs}
 use Rattle.callers.proofs.gives.Statement.{statement}

@@ -1,5 +1,4 @@
 -- `callers::is_asked` meets its contract. Assumes nothing.
-use mathlib.Core.Path.{_∙_}
 use borrow.Author.Needs.{needs}
 use Rattle.callers.proofs.is_asked.Statement.{statement}
 use Rattle.callers.proofs.is_asked.Tie as tie

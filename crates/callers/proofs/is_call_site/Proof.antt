@@ -1,10 +1,8 @@
 -- `callers::is_call_site` meets its contract. Assumes nothing.
-use Prim.Native.Nat.{_+_, _*_, _≤_}
-use mathlib.Core.Path.{_∙_, ap, sym}
 use native.Mathlib.Omega.{arith}
 use denote.Ref.{now}
 use Rattle.machine.specs.Step.{wordCount}
-use Rattle.callers.proofs.Points.{point-inside, point-small, point-room}
+use Rattle.callers.proofs.Points.{point-small, point-room}
 use Rattle.callers.proofs.Sites.{no-site, site, site-bounded}
 use borrow.Author.Needs.{needs}
 use Rattle.callers.proofs.is_call_site.Statement.{statement}

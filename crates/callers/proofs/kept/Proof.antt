@@ -3,7 +3,6 @@ use native.Mathlib.Omega.{arith}
 use native.Mathlib.Nat.{mod-lt}
 use Prim.Native.Nat.{_%_, _<_}
 use mathlib.Core.Path.{ap, sym}
-use borrow.Author.Needs.{needs}
 use Rattle.callers.proofs.kept.Statement.{statement}
 use Rattle.callers.proofs.kept.Tie as tie
 

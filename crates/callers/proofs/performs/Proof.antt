@@ -5,7 +5,7 @@ use denote.Ref.{now}
 use Rattle.choice.specs.Choice.{pick}
 use Rattle.word.specs.Word.{InRange}
 use Rattle.machine.specs.Shape.{shapeOf}
-use Rattle.transfer.specs.Passes.{isCall, isReturn, some, wordsAt}
+use Rattle.transfer.specs.Passes.{isCall, isReturn, some}
 use Rattle.callers.proofs.Words.{itself, one-word, retold}
 use borrow.Author.Needs.{needs}
 use Rattle.callers.proofs.performs.Statement.{statement}

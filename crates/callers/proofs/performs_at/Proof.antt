@@ -1,5 +1,4 @@
 -- `callers::performs_at` meets its contract. Assumes nothing.
-use mathlib.Core.Path.{_∙_, sym}
 use denote.Ref.{now}
 use Rattle.callers.proofs.Executing.{not-given, not-inside, is-executed}
 use borrow.Author.Needs.{needs}

@@ -1,5 +1,4 @@
 -- A count within the bytes.
-use borrow.Author.Needs.{needs}
 use native.Mathlib.Omega.{arith}
 use Rattle.io.proofs.Counting.{counts}
 use Rattle.cases.proofs.within.Statement.{statement}

@@ -1,10 +1,9 @@
 -- `field::ones` meets its contract. Assumes nothing.
-use mathlib.Core.Path.{sym, ap, _∙_}
-use Prim.Native.Nat.{ℕ, _-_, _^_}
+use mathlib.Core.Path.{ap}
+use Prim.Native.Nat.{ℕ, _-_}
 use borrow.Author.Needs.{needs}
 use borrow.Author.Tests.{eq-eqb, ne-eqb}
 use lib.Pow.{pow-pos}
-use Rattle.field.specs.Field.{widthOf}
 use Rattle.field.proofs.Shifts.{one-byte}
 use Rattle.field.proofs.ones.Statement.{statement}
 use Rattle.field.proofs.ones.Tie as tie

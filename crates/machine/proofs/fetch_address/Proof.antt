@@ -1,5 +1,4 @@
 use borrow.Author.Tests.{eq-eqb, ne-eqb}
-use borrow.Author.Needs.{needs}
 use Rattle.machine.proofs.fetch_address.Statement.{statement}
 use Rattle.machine.proofs.fetch_address.Tie as tie
 

@@ -3,14 +3,11 @@ use lib.ListN.{getD}
 use lib.Dec.{eqb}
 use Rattle.choice.specs.Choice.{pick}
 use Prim.Native.Nat.{_*_, _+_, _<_}
-use native.Mathlib.Omega.{arith}
-use Rattle.word.specs.Word.{decoded}
-use Rattle.machine.specs.Step.{wordCount, wordAt, fetchAddress}
 use mathlib.Core.Path.{_∙_, sym}
 use mathlib.Core.List.{[], _∷_}
 use denote.Ref.{now}
 use Rattle.machine.specs.Parts.{whole}
-use Rattle.machine.proofs.Fetching.{not-fetched, told-valid, fetched-is, pc-near, outside, inside, nothing, fetched-in-range}
+use Rattle.machine.proofs.Fetching.{pc-near, outside, inside, nothing, fetched-in-range}
 use borrow.Author.Needs.{needs}
 use Rattle.machine.proofs.step.Statement.{statement}
 use Rattle.machine.proofs.step.Tie as tie

@@ -1,5 +1,5 @@
 -- `riptide::word_from` meets its contract. Assumes nothing.
-use mathlib.Core.Path.{refl, sym, _∙_}
+use mathlib.Core.Path.{refl}
 use borrow.Author.Tests.{eq-eqb, ne-eqb}
 use Rattle.riptide.specs.Numbers.{wordFrom}
 use borrow.Author.Needs.{needs}

@@ -1,5 +1,4 @@
 -- `machine::act::argument` meets its contract. Assumes nothing.
-use mathlib.Core.Path.{_∙_}
 use borrow.Author.Tests.{eq-eqb, ne-eqb}
 use borrow.Author.Needs.{needs}
 use Rattle.machine.proofs.act.argument.Statement.{statement}

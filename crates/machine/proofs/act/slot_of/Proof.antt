@@ -1,7 +1,6 @@
 use native.Mathlib.Omega.{arith}
 use borrow.Author.Tests.{lt-ltb, eq-eqb, le-ltb, ne-eqb}
 use Rattle.machine.specs.Shape.{slotOf}
-use borrow.Author.Needs.{needs}
 use Rattle.machine.proofs.act.slot_of.Statement.{statement}
 use Rattle.machine.proofs.act.slot_of.Tie as tie
 

@@ -2,8 +2,8 @@ use Prim.Native.Nat.{_%_, _/_}
 use mathlib.Core.Path.{_∙_}
 use denote.Ref.{now}
 use borrow.Author.Tests.{not-true, not-false}
-use Rattle.map.specs.Map.{listed, writable}
-use Rattle.machine.proofs.Deliver.{to-register, to-address, unlisted, to-bank, unwritable}
+use Rattle.map.specs.Map.{writable}
+use Rattle.machine.proofs.Deliver.{to-bank, unwritable}
 use borrow.Author.Needs.{needs}
 use Rattle.machine.proofs.act.to_latch.Statement.{statement}
 use Rattle.machine.proofs.act.to_latch.Tie as tie

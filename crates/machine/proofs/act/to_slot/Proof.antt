@@ -1,8 +1,8 @@
 use mathlib.Core.Path.{_∙_}
 use borrow.Author.Tests.{not-true, not-false}
-use Rattle.map.specs.Map.{listed, writable}
+use Rattle.map.specs.Map.{listed}
 use denote.Ref.{now}
-use Rattle.machine.proofs.Deliver.{to-register, to-address, unlisted, to-bank, unwritable}
+use Rattle.machine.proofs.Deliver.{to-register, to-address, unlisted}
 use borrow.Author.Needs.{needs}
 use Rattle.machine.proofs.act.to_slot.Statement.{statement}
 use Rattle.machine.proofs.act.to_slot.Tie as tie

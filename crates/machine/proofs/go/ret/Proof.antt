@@ -1,7 +1,7 @@
 use native.Mathlib.Omega.{arith}
 use mathlib.Core.Path.{_∙_}
 use denote.Ref.{now}
-use Rattle.machine.proofs.Direct.{unread-defer, unread-branch, deferred, branch-zero, branch-taken, called, full, returned, empty}
+use Rattle.machine.proofs.Direct.{returned, empty}
 use borrow.Author.Needs.{needs}
 use Rattle.machine.proofs.go.ret.Statement.{statement}
 use Rattle.machine.proofs.go.ret.Tie as tie

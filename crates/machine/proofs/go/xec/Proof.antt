@@ -3,7 +3,7 @@ use mathlib.Core.List.{[], _∷_}
 use denote.Ref.{now}
 use borrow.Author.Tests.{not-true, not-false}
 use Rattle.machine.specs.Shape.{sourceOf}
-use Rattle.machine.proofs.Direct.{unread-defer, unread-branch, deferred, branch-zero, branch-taken, called, full, returned, empty}
+use Rattle.machine.proofs.Direct.{unread-defer, deferred}
 use borrow.Author.Needs.{needs}
 use Rattle.machine.proofs.go.xec.Statement.{statement}
 use Rattle.machine.proofs.go.xec.Tie as tie
