@@ -2,7 +2,7 @@
 ghost use mathlib.Core.Path.{_≡_};
 ghost use mathlib.Core.List.{List, [], _∷_};
 ghost use Prim.Native.Nat.{ℕ, _<_, _≤_};
-ghost use Rattle.machine.specs.Shape.{sourceOf, register, constant, go, jump, branch, defer, call, return};
+ghost use Rattle.machine.specs.Shape.{sourceOf, register, constant, go, branch, defer, call, return};
 ghost use Rattle.machine.specs.Step.{inPage, wordStep};
 ghost use Rattle.machine.specs.Parts.{whole, outcome, goEffect, deferEffect, Ready, IsPage};
 use crate::Effect;

@@ -1,6 +1,6 @@
 // The access map: 128 bytes, four sets of bus addresses. Bank 0 is left, 1 is right.
 ghost use mathlib.Core.Path.{_≡_};
-ghost use Prim.Native.Nat.{_<_, _≤_};
+ghost use Prim.Native.Nat.{_<_};
 ghost use lib.ListN.{length};
 ghost use Rattle.map.specs.Map.{mapLength, inSet, readable, writable, listed, countOf, counted, countsOf, counting};
 
