@@ -18,7 +18,7 @@ use Rattle.transfer.specs.Passes.{tableLength, leastTable}
 use Rattle.transfer.proofs.TableLaws.{least-table}
 use Rattle.admission.specs.declared.AdmitAnswer.{AdmitAnswer}
 use Rattle.admission.specs.declared.AdmitAnswer.the-variants.{Refused}
-use Rattle.admission.specs.Admission.{withFindings, filledTable, verdictOf, yielded, admitResult}
+use Rattle.admission.specs.Admission.{withFindings, filledTable, verdictOf, resulting, admitResult}
 
 -- what question 11 says of the number of words
 pub image-some : (image : List ℕ) → imageFits image ≡ true → 0 < wordCount image
@@ -28,31 +28,31 @@ image-some image h =
     omega arith
 
 module _ (image map table : List ℕ) where
-  pub refused-11 : imageFits image ≡ false → yielded (Refused 11) table ≡ admitResult image map table
+  pub refused-11 : imageFits image ≡ false → resulting (Refused 11) table ≡ admitResult image map table
   unfolding admitResult
   refused-11 h = rw h
 
   module _ (words : imageFits image ≡ true) where
-    pub refused-12 : (length map ≡ mapLength → ⊥) → yielded (Refused 12) table ≡ admitResult image map table
+    pub refused-12 : (length map ≡ mapLength → ⊥) → resulting (Refused 12) table ≡ admitResult image map table
     unfolding admitResult
     refused-12 h = rw (words, ne-eqb (length map) mapLength h)
 
     module _ (long : length map ≡ mapLength) where
-      pub refused-13 : (length table ≡ tableLength image → ⊥) → yielded (Refused 13) table ≡ admitResult image map table
+      pub refused-13 : (length table ≡ tableLength image → ⊥) → resulting (Refused 13) table ≡ admitResult image map table
       unfolding admitResult
       refused-13 h = rw (words, eq-eqb (length map) mapLength long, ne-eqb (length table) (tableLength image) h)
 
       module _ (room : length table ≡ tableLength image) where
-        pub let-in : admitResult image map table ≡ yielded (verdictOf image map (leastTable image)) (filledTable image map)
+        pub let-in : admitResult image map table ≡ resulting (verdictOf image map (leastTable image)) (filledTable image map)
         unfolding admitResult
         let-in = rw (words, eq-eqb (length map) mapLength long, eq-eqb (length table) (tableLength image) room)
 
         -- what the code makes of the table: filled, and then with its findings
         pub yields : (filled after : List ℕ) (answer : AdmitAnswer) → filled ≡ leastTable image → answer ≡ verdictOf image map filled
-            → after ≡ withFindings image map filled filled 0 (depths * wordCount image) → yielded answer after ≡ admitResult image map table
+            → after ≡ withFindings image map filled filled 0 (depths * wordCount image) → resulting answer after ≡ admitResult image map table
         unfolding filledTable
         yields filled after answer e v w =
-            ap₂ yielded (v ∙ ap (verdictOf image map) e) (w ∙ ap (λ (t : List ℕ). withFindings image map t t 0 (depths * wordCount image)) e) ∙ sym let-in
+            ap₂ resulting (v ∙ ap (verdictOf image map) e) (w ∙ ap (λ (t : List ℕ). withFindings image map t t 0 (depths * wordCount image)) e) ∙ sym let-in
 
 -- the filled table is one that a loop over its cells can read
 pub least-held : (image filled : List ℕ) → ((k : ℕ) → getD image k 0 < 256) → imageFits image ≡ true → filled ≡ leastTable image → Held image filled

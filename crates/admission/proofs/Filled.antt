@@ -18,7 +18,7 @@ use Rattle.transfer.specs.Findings.{findingAt, NoFinding}
 use Rattle.transfer.proofs.TableLaws.{least-table}
 use Rattle.admission.specs.declared.AdmitAnswer.{AdmitAnswer}
 use Rattle.admission.specs.declared.AdmitAnswer.the-variants.{Refused, Admitted}
-use Rattle.admission.specs.Admission.{filledTable, verdictOf, AdmitResult, yielded, admitResult, Cleared}
+use Rattle.admission.specs.Admission.{filledTable, verdictOf, AdmitResult, resulting, admitResult, Cleared}
 use Rattle.admission.proofs.Same.{SameCells, finding-same}
 use Rattle.admission.proofs.Marking.{Marking, marked-all}
 use Rattle.admission.proofs.Verdict.{clear-admitted, admitted-clear}
@@ -73,17 +73,17 @@ module _ (image map : List ℕ) (bytes : (k : ℕ) → getD image k 0 < 256) (so
 
 -- ---- admitted exactly where the door questions get yes and no cell of the least table has a finding
 
-pub cleared-admitted : (image map table : List ℕ) → Cleared image map table → admitResult image map table ≡ yielded Admitted (filledTable image map)
+pub cleared-admitted : (image map table : List ℕ) → Cleared image map table → admitResult image map table ≡ resulting Admitted (filledTable image map)
 cleared-admitted image map table c =
     let-in image map table (c .fits) (c .long) (c .room)
-    ∙ ap (λ (a : AdmitAnswer). yielded a (filledTable image map)) (clear-admitted image map (leastTable image) (c .clear))
+    ∙ ap (λ (a : AdmitAnswer). resulting a (filledTable image map)) (clear-admitted image map (leastTable image) (c .clear))
 
 pub admitted-cleared : (image map table : List ℕ) → admitResult image map table .answer ≡ Admitted → Cleared image map table
 unfolding admitResult
 admitted-cleared image map table h = go (imageFits image) refl (eqb (length map) mapLength) refl (eqb (length table) (tableLength image)) refl h
   where
     go : (a : Bool) → imageFits image ≡ a → (b : Bool) → eqb (length map) mapLength ≡ b → (c : Bool) → eqb (length table) (tableLength image) ≡ c
-        → pick a (pick b (pick c (yielded (verdictOf image map (leastTable image)) (filledTable image map)) (yielded (Refused 13) table)) (yielded (Refused 12) table)) (yielded (Refused 11) table) .answer ≡ Admitted
+        → pick a (pick b (pick c (resulting (verdictOf image map (leastTable image)) (filledTable image map)) (resulting (Refused 13) table)) (resulting (Refused 12) table)) (resulting (Refused 11) table) .answer ≡ Admitted
         → Cleared image map table
     go false ea b eb c ec e = absurd (let z : _≡_ {A = ℕ} 0 1 = cc in omega arith)
     go true ea false eb c ec e = absurd (let z : _≡_ {A = ℕ} 0 1 = cc in omega arith)

@@ -18,7 +18,7 @@ use Rattle.transfer.specs.Findings.{firstFinding}
 use Rattle.transfer.proofs.Numbers.{finding-small}
 use Rattle.admission.specs.declared.AdmitAnswer.{AdmitAnswer}
 use Rattle.admission.specs.declared.AdmitAnswer.the-variants.{Refused, Admitted, Found}
-use Rattle.admission.specs.Admission.{AdmitResult, verdictOf, yielded, admitResult}
+use Rattle.admission.specs.Admission.{AdmitResult, verdictOf, resulting, admitResult}
 use Rattle.emulator.proofs.Door.{image-words}
 
 -- a verdict refuses nothing
@@ -54,7 +54,7 @@ answer-small image map table =
     pick-cases (λ (r : AdmitResult). Small (r .answer)) (imageFits image)
     (λ fits. asked-holds (λ (r : AdmitResult). Small (r .answer))
     (ask 12 (eqb (length map) mapLength) ∷ ask 13 (eqb (length table) (tableLength image)) ∷ [])
-    {refuse = λ n. yielded (Refused n) table}
+    {refuse = λ n. resulting (Refused n) table}
     (told-small (wordCount image) (verdictOf image map (leastTable image)) (image-words image fits) (verdict-told image map (leastTable image)))
     (λ n. tt))
     (λ _. tt)

@@ -34,15 +34,15 @@ unfoldable pub verdictOf : List ℕ → List ℕ → List ℕ → AdmitAnswer
 verdictOf image map table = verdictAt image map table (firstFinding image map table 0 (depths * wordCount image))
 
 -- "Admission puts 11, 12, 13": "Table 144 × N bytes? 13"
-abbrev pub doorQuestions : List ℕ → List ℕ → List ℕ → List Question
-doorQuestions image map table =
+abbrev pub admitQuestions : List ℕ → List ℕ → List ℕ → List Question
+admitQuestions image map table =
     ask 11 (imageFits image) ∷ ask 12 (eqb (length map) mapLength) ∷ ask 13 (eqb (length table) (tableLength image)) ∷ []
 
 -- The paper's numbers for each case: the refusal or the finding, and the finding's depth and address; 0 where admitted.
-abbrev pub answerNumbers : AdmitAnswer → List ℕ
-answerNumbers (Refused number) = number ∷ []
-answerNumbers Admitted = 0 ∷ []
-answerNumbers (Found number depth address) = number ∷ depth ∷ address ∷ []
+abbrev pub verdictNumbers : AdmitAnswer → List ℕ
+verdictNumbers (Refused number) = number ∷ []
+verdictNumbers Admitted = 0 ∷ []
+verdictNumbers (Found number depth address) = number ∷ depth ∷ address ∷ []
 
 -- What admission yields: its answer, the same in the paper's numbers, and the table's bytes afterwards.
 pub record AdmitResult : Type 0 where
@@ -50,14 +50,14 @@ pub record AdmitResult : Type 0 where
   pub numbers : List ℕ
   pub table : List ℕ
 
-abbrev pub yielded : AdmitAnswer → List ℕ → AdmitResult
-yielded answer table = record { answer = answer; numbers = answerNumbers answer; table = table }
+abbrev pub resulting : AdmitAnswer → List ℕ → AdmitResult
+resulting answer table = record { answer = answer; numbers = verdictNumbers answer; table = table }
 
 -- The admission of an image under a map, into a table. "A no changes no lent byte."
 unfoldable pub admitResult : List ℕ → List ℕ → List ℕ → AdmitResult
 admitResult image map table =
-    asked (doorQuestions image map table) (yielded (verdictOf image map (leastTable image)) (filledTable image map))
-    (λ number. yielded (Refused number) table)
+    asked (admitQuestions image map table) (resulting (verdictOf image map (leastTable image)) (filledTable image map))
+    (λ number. resulting (Refused number) table)
 
 -- "a program is admitted exactly when the least table of facts shows no finding": what admission asks of an image, a map
 -- and a table

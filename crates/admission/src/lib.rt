@@ -8,7 +8,7 @@ ghost use Rattle.facts.specs.Record.{depths, recordOf, cellAt, putRecord};
 ghost use Rattle.transfer.specs.Passes.{pointAt};
 ghost use Rattle.transfer.specs.Findings.{findingAt};
 ghost use Rattle.callers.specs.Callers.{Held};
-ghost use Rattle.admission.specs.Admission.{withFindings, verdictOf, yielded, admitResult};
+ghost use Rattle.admission.specs.Admission.{withFindings, verdictOf, resulting, admitResult};
 
 // What admission answers: a refusal at the door; admitted; or the lowest cell with a finding.
 pub enum AdmitAnswer {
@@ -78,7 +78,7 @@ fn mark(image: &[u8], map: &[u8], table: &mut [u8]) -> AdmitAnswer
 // Reads an image under a map, and fills the table of facts, whatever it held. Answers admitted, or the lowest cell with a
 // finding; or a refusal, 11, 12 or 13, and then no byte changes.
 pub fn admit(image: &[u8], map: &[u8], table: &mut [u8]) -> AdmitAnswer
-    ensures { λ r. ⌜ yielded r (now (table .exit)) ≡ admitResult (now (image .entry)) (now (map .entry)) (now (table .entry)) ⌝ }
+    ensures { λ r. ⌜ resulting r (now (table .exit)) ≡ admitResult (now (image .entry)) (now (map .entry)) (now (table .entry)) ⌝ }
 {
     if !emulator::image_fits(image) {
         return AdmitAnswer::Refused { number: 11 };

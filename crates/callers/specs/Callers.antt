@@ -12,7 +12,7 @@ abbrev pub spanIs : Values → Span
 spanIs v = record { low = v .low; count = v .count }
 
 -- an address of an image of at most 8,192 words
-pub record Within (image : List ℕ) (a : ℕ) : Type 0 where
+pub record InImage (image : List ℕ) (a : ℕ) : Type 0 where
   pub words : wordCount image ≤ 8192
   pub inside : a < wordCount image
 

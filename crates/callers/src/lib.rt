@@ -10,7 +10,7 @@ ghost use Rattle.machine.specs.Step.{wordCount, shapeAt};
 ghost use Rattle.facts.specs.Facts.{spanOf};
 ghost use Rattle.cells.specs.Cells.{Bounded};
 ghost use Rattle.transfer.specs.Passes.{gives, pageAddress, canBeExecuted, isCall, isReturn, some, wordsAt, isCallSite};
-ghost use Rattle.callers.specs.Callers.{spanIs, Within, Held};
+ghost use Rattle.callers.specs.Callers.{spanIs, InImage, Held};
 use word::Word;
 
 // The values that a source may have: count of them from low on.
@@ -101,7 +101,7 @@ fn performs_at(
     k: usize,
     returns: bool,
 ) -> bool
-    requires { ⌜ Within (now image) pc × IsPage page × (i < 256) × (v .low + v .count ≤ 256) × (k < page) ⌝ }
+    requires { ⌜ InImage (now image) pc × IsPage page × (i < 256) × (v .low + v .count ≤ 256) × (k < page) ⌝ }
     ensures { λ r. ⌜ r ≡ (gives page i (spanIs v) k && canBeExecuted (now (image .entry)) (pageAddress page pc k)) && pick returns isReturn isCall (shapeAt (now (image .entry)) (pageAddress page pc k)) ⌝ }
 {
     if !gives(page, i, v, k) {
@@ -125,7 +125,7 @@ fn xec_performs(
     i: usize,
     returns: bool,
 ) -> bool
-    requires { ⌜ Within (now image) pc × Bounded facts × (l < 8) × IsPage page × (i < 256) ⌝ }
+    requires { ⌜ InImage (now image) pc × Bounded facts × (l < 8) × IsPage page × (i < 256) ⌝ }
     ensures { λ r. ⌜ r ≡ some (pick returns isReturn isCall) (wordsAt (now (image .entry)) pc facts (go (sourceOf s 0 l) (defer page i))) ⌝ }
 {
     let v = values_of(facts, s, l);
@@ -141,7 +141,7 @@ fn xec_performs(
 
 // May the cell at pc with these facts and its word execute a RET, or else a CALL?
 pub fn performs(image: &[u8], pc: usize, facts: [u16; 11], word: Word, returns: bool) -> bool
-    requires { ⌜ Within (now image) pc × Bounded facts × InRange word ⌝ }
+    requires { ⌜ InImage (now image) pc × Bounded facts × InRange word ⌝ }
     ensures { λ r. ⌜ r ≡ some (pick returns isReturn isCall) (wordsAt (now (image .entry)) pc facts (shapeOf word)) ⌝ }
 {
     if let Word::XecRegister { s, i } = word {

@@ -10,9 +10,9 @@ use borrow.Rule.Slice.PartMut.{put-same}
 use Rattle.facts.specs.declared.Cell.{Cell}
 use Rattle.facts.specs.Record.{recordSize, cellAt, putRecord, putCell, holdsCell, joinCell, FineCell}
 use Rattle.facts.proofs.Cells.{holds-refl, holds-antisym, join-holds-left, join-held, join-fine}
-use Rattle.cells.specs.Cells.{Inside}
+use Rattle.cells.specs.Cells.{HasCell}
 
-module _ (t : List ℕ) (i : ℕ) (g : Inside t i) where
+module _ (t : List ℕ) (i : ℕ) (g : HasCell t i) where
   pub room : recordSize * i + recordSize ≤ length t
   room = let l = g .layout .long in let h = g .inside in omega arith
 

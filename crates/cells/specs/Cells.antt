@@ -6,7 +6,7 @@ use Rattle.facts.specs.Facts.{unknown}
 use Rattle.facts.specs.Record.{Layout}
 
 -- a table with the layout, of some number of cells, i among them
-pub record Inside (table : List ℕ) (i : ℕ) : Type 0 where
+pub record HasCell (table : List ℕ) (i : ℕ) : Type 0 where
   pub cells : ℕ
   pub layout : Layout cells table
   pub inside : i < cells

@@ -9,7 +9,7 @@ ghost use lib.ListN.{length};
 ghost use Rattle.choice.specs.Choice.{pick};
 ghost use Rattle.facts.specs.Facts.{factCount, unknown, isKnown, knowsNoMore, allKnowNoMore, joinFact, joinFacts};
 ghost use Rattle.facts.specs.Record.{recordSize, factsFrom, readCell, cellAt, maskOf, valueByte, recordOf, putRecord, putCell, FineCell, holdsCell, joinCell};
-ghost use Rattle.cells.specs.Cells.{Inside};
+ghost use Rattle.cells.specs.Cells.{HasCell};
 use facts::Cell;
 
 // Which facts are known, low byte first.
@@ -230,7 +230,7 @@ pub fn joined(c: Cell, d: Cell) -> Cell
 
 // Joins d into cell i of a table. Says whether the cell changed.
 pub fn join_into(table: &mut [u8], i: usize, d: Cell) -> bool
-    requires { ⌜ Inside (now table) i × FineCell d ⌝ }
+    requires { ⌜ HasCell (now table) i × FineCell d ⌝ }
     ensures { λ r. ⌜ (now (table .exit) ≡ putCell (now (table .entry)) i (joinCell (cellAt (now (table .entry)) i) d)) × (r ≡ not (holdsCell (cellAt (now (table .entry)) i) d)) ⌝ }
 {
     let c = load(table, i);

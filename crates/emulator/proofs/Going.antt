@@ -16,7 +16,7 @@ use Rattle.machine.specs.Parts.{whole, outcome}
 use Rattle.machine.specs.Step.{wordCount, Outcome, stepped}
 use Rattle.machine.proofs.Keeps.{Sound, SoundOutcome, step-sound}
 use Rattle.emulator.specs.Run.{pairLength, pairCount, recordLength, Ran, still, after, ranOver, writtenOver}
-use Rattle.emulator.specs.Parts.{recordOf, Bytes, sequencerOf, lastState, ranTo, laid, Accepted}
+use Rattle.emulator.specs.Parts.{traceRecordOf, TraceBytes, sequencerOf, lastState, ranTo, laid, Accepted}
 use Rattle.emulator.proofs.Written.{part-written, written, written-take, written-drop, written-length}
 
 -- ---- the run by its parts
@@ -173,12 +173,12 @@ module _ (image map recording start : List ℕ) (s₀ : State) where
     sound : SoundOutcome (outcome e v′ l′ r′)
     sound = goes-sound i (whole q v l r) trace (outcome e v′ l′ r′) (door .words) bytes pairs g step
 
-    pub record-bytes : Bytes e
+    pub record-bytes : TraceBytes e
     record-bytes =
         record { kind = sound .bytes 0; address = sound .bytes 1; written = sound .bytes 2; stop = sound .bytes 3 }
 
     module _ (h : i < pairCount recording) (part : List ℕ)
-        (write : part ≡ writtenOver (recordOf e) (take (length trace - recordLength * i) (drop (recordLength * i) trace))) where
+        (write : part ≡ writtenOver (traceRecordOf e) (take (length trace - recordLength * i) (drop (recordLength * i) trace))) where
       -- the trace with the part back
       abbrev back : List ℕ
       back = putMid (recordLength * i) (length trace - recordLength * i) trace part
@@ -188,7 +188,7 @@ module _ (image map recording start : List ℕ) (s₀ : State) where
           subst (λ (s : State). Going (i + 1) s back)
           (sym (ap₂ (λ (x : Sequencer) (m : ℕ). lastState (record { q = x; count = i + 1; stop = m }) v′ l′ r′) hp hn))
           (goes-on i (whole q v l r) trace back (outcome e v′ l′ r′) (door .room) g h refl step sound
-          (part-written (recordLength * i) trace part (recordOf e) write))
+          (part-written (recordLength * i) trace part (traceRecordOf e) write))
 
       pub again : (p : Sequencer) → p ≡ sequencerOf e → e .stop ≡ 0
           → Going (i + 1) (whole p v′ l′ r′) (putMid (recordLength * i) (length trace - recordLength * i) trace part)

@@ -13,11 +13,11 @@ use Rattle.emulator.specs.declared.Last.{Last}
 use Rattle.emulator.specs.Run.{Ran, pairCount, recordLength, writtenOver}
 
 -- a step's trace record
-abbrev pub recordOf : Effect → List ℕ
-recordOf e = e .kind ∷ e .address ∷ e .written ∷ e .stop ∷ []
+abbrev pub traceRecordOf : Effect → List ℕ
+traceRecordOf e = e .kind ∷ e .address ∷ e .written ∷ e .stop ∷ []
 
 -- its numbers fit bytes
-pub record Bytes (e : Effect) : Type 0 where
+pub record TraceBytes (e : Effect) : Type 0 where
   pub kind : e .kind < 256
   pub address : e .address < 256
   pub written : e .written < 256

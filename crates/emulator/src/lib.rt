@@ -5,7 +5,7 @@ ghost use lib.ListN.{length};
 ghost use Rattle.state.specs.State.{stateLength};
 ghost use Rattle.machine.specs.Parts.{whole};
 ghost use Rattle.emulator.specs.Run.{recordLength, ranOver, writtenOver, imageFits, yielded, ended, runResult};
-ghost use Rattle.emulator.specs.Parts.{recordOf, Bytes, sequencerOf, ranTo, laid, Accepted};
+ghost use Rattle.emulator.specs.Parts.{traceRecordOf, TraceBytes, sequencerOf, ranTo, laid, Accepted};
 use machine::Effect;
 use machine::Sequencer;
 use state::State;
@@ -42,8 +42,8 @@ fn sequencer(e: Effect) -> Sequencer
 
 // Writes a step's record at the start of a part of the trace.
 fn write_record(part: &mut [u8], e: Effect)
-    requires { ⌜ (recordLength ≤ length (now part)) × Bytes e ⌝ }
-    ensures { λ _. ⌜ now (part .exit) ≡ writtenOver (recordOf e) (now (part .entry)) ⌝ }
+    requires { ⌜ (recordLength ≤ length (now part)) × TraceBytes e ⌝ }
+    ensures { λ _. ⌜ now (part .exit) ≡ writtenOver (traceRecordOf e) (now (part .entry)) ⌝ }
 {
     part[0] = e.kind as u8;
     part[1] = e.address as u8;

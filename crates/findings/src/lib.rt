@@ -12,7 +12,7 @@ ghost use Rattle.machine.specs.Step.{wordCount};
 ghost use Rattle.machine.specs.Parts.{IsPage};
 ghost use Rattle.facts.specs.Facts.{unknown, resultFact};
 ghost use Rattle.cells.specs.Cells.{Bounded};
-ghost use Rattle.callers.specs.Callers.{Within, Held};
+ghost use Rattle.callers.specs.Callers.{InImage, Held};
 ghost use Rattle.transfer.specs.Passes.{isDefer, isCallSite, pointAt};
 ghost use Rattle.transfer.specs.Findings.{readQuestions, targetQuestions, allBelow, wordFindings, executedFindings, deferFindings, findingAt};
 ghost use Rattle.findings.specs.Findings.{Tells};
@@ -90,7 +90,7 @@ fn deliver_finding(
     x: u16,
     d: usize,
 ) -> u8
-    requires { ⌜ Within (now image) pc × (length (now map) ≡ mapLength) × Bounded facts × (x ≤ unknown) ⌝ }
+    requires { ⌜ InImage (now image) pc × (length (now map) ≡ mapLength) × Bounded facts × (x ≤ unknown) ⌝ }
     ensures { λ r. ⌜ ((l : ℕ) → Tells r (targetQuestions (now (map .entry)) (targetOf d l) (resultFact op (getD facts 0 unknown) x) facts ++ (ask 21 (ltb (pc + 1) (wordCount (now (image .entry)))) ∷ []))) ⌝ }
 {
     let y = cells::acts::result_fact(op, facts[0], x);
@@ -112,7 +112,7 @@ fn act_finding(
     rl: usize,
     d: usize,
 ) -> u8
-    requires { ⌜ Within (now image) pc × (length (now map) ≡ mapLength) × Bounded facts × (rl < 8) ⌝ }
+    requires { ⌜ InImage (now image) pc × (length (now map) ≡ mapLength) × Bounded facts × (rl < 8) ⌝ }
     ensures { λ r. ⌜ ((table : List ℕ) (depth : ℕ) → Tells r (wordFindings (now (image .entry)) (now (map .entry)) table depth pc facts (actShape op s rl d))) ⌝ }
 {
     let f = read_finding(map, facts, s);
@@ -134,7 +134,7 @@ fn branch_finding(
     page: usize,
     i: usize,
 ) -> u8
-    requires { ⌜ Within (now image) pc × (length (now map) ≡ mapLength) × Bounded facts × (l < 8) × IsPage page ⌝ }
+    requires { ⌜ InImage (now image) pc × (length (now map) ≡ mapLength) × Bounded facts × (l < 8) × IsPage page ⌝ }
     ensures { λ r. ⌜ ((table : List ℕ) (depth : ℕ) → Tells r (wordFindings (now (image .entry)) (now (map .entry)) table depth pc facts (go (sourceOf s 0 l) (branch page i)))) ⌝ }
 {
     let f = read_finding(map, facts, s);
@@ -150,7 +150,7 @@ fn branch_finding(
 
 // CALL.
 fn call_finding(image: &[u8], depth: usize, pc: usize, facts: [u16; 11], i: usize) -> u8
-    requires { ⌜ Within (now image) pc × Bounded facts × (i < 256) ⌝ }
+    requires { ⌜ InImage (now image) pc × Bounded facts × (i < 256) ⌝ }
     ensures { λ r. ⌜ ((map table : List ℕ) → Tells r (wordFindings (now (image .entry)) map table depth pc facts (go (register 0 0) (call i)))) ⌝ }
 {
     if 8 <= depth {
@@ -188,7 +188,7 @@ fn word_finding(
     back: bool,
     word: Word,
 ) -> u8
-    requires { ⌜ Within (now image) pc × (length (now map) ≡ mapLength) × Bounded facts × InRange word ⌝ }
+    requires { ⌜ InImage (now image) pc × (length (now map) ≡ mapLength) × Bounded facts × InRange word ⌝ }
     ensures { λ r. ⌜ ((table : List ℕ) → back ≡ allBelow (wordCount (now (image .entry))) (wordCount (now (image .entry))) (isCallSite (now (image .entry)) table (depth - 1)) → Tells r (wordFindings (now (image .entry)) (now (map .entry)) table depth pc facts (shapeOf word))) ⌝ }
 {
     match word {
@@ -259,7 +259,7 @@ fn executed_finding(
     back: bool,
     a: usize,
 ) -> u8
-    requires { ⌜ Within (now image) pc × (length (now map) ≡ mapLength) × Bounded facts ⌝ }
+    requires { ⌜ InImage (now image) pc × (length (now map) ≡ mapLength) × Bounded facts ⌝ }
     ensures { λ r. ⌜ ((table : List ℕ) → back ≡ allBelow (wordCount (now (image .entry))) (wordCount (now (image .entry))) (isCallSite (now (image .entry)) table (depth - 1)) → Tells r (executedFindings (now (image .entry)) (now (map .entry)) table depth pc facts a)) ⌝ }
 {
     if image.len() / 2 <= a {
@@ -287,7 +287,7 @@ fn xec_finding(
     page: usize,
     i: usize,
 ) -> u8
-    requires { ⌜ Within (now image) pc × (length (now map) ≡ mapLength) × Bounded facts × (l < 8) × IsPage page × (i < 256) ⌝ }
+    requires { ⌜ InImage (now image) pc × (length (now map) ≡ mapLength) × Bounded facts × (l < 8) × IsPage page × (i < 256) ⌝ }
     ensures { λ r. ⌜ ((table : List ℕ) → back ≡ allBelow (wordCount (now (image .entry))) (wordCount (now (image .entry))) (isCallSite (now (image .entry)) table (depth - 1)) → Tells r (deferFindings (now (image .entry)) (now (map .entry)) table depth pc facts (go (sourceOf s 0 l) (defer page i)))) ⌝ }
 {
     let v = callers::values_of(facts, s, l);
@@ -315,7 +315,7 @@ fn defer_finding(
     back: bool,
     word: Word,
 ) -> u8
-    requires { ⌜ Within (now image) pc × (length (now map) ≡ mapLength) × Bounded facts × InRange word ⌝ }
+    requires { ⌜ InImage (now image) pc × (length (now map) ≡ mapLength) × Bounded facts × InRange word ⌝ }
     ensures { λ r. ⌜ ((table : List ℕ) → back ≡ allBelow (wordCount (now (image .entry))) (wordCount (now (image .entry))) (isCallSite (now (image .entry)) table (depth - 1)) → Tells r (deferFindings (now (image .entry)) (now (map .entry)) table depth pc facts (shapeOf word))) ⌝ }
 {
     if let Word::XecRegister { s, i } = word {

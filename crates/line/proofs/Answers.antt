@@ -14,7 +14,7 @@ use Rattle.facts.specs.Record.{depths}
 use Rattle.transfer.specs.Passes.{tableLength, leastTable}
 use Rattle.admission.specs.declared.AdmitAnswer.{AdmitAnswer}
 use Rattle.admission.specs.declared.AdmitAnswer.the-variants.{Refused, Found}
-use Rattle.admission.specs.Admission.{AdmitResult, verdictOf, yielded, admitResult}
+use Rattle.admission.specs.Admission.{AdmitResult, verdictOf, resulting, admitResult}
 use Rattle.admission.proofs.Range.{Told, verdict-told}
 use Rattle.line.specs.Line.{answerLine, wordsLine}
 
@@ -34,7 +34,7 @@ answered image map table words long room =
 
 -- the answer of a call with the part of the buffer that the image needs
 pub verdict : (image map : List ℕ) {room : ℕ} {last : List ℕ} {r : AdmitAnswer} → LetIn room map image → (buffer : List ℕ) → 57600 ≡ length buffer
-    → yielded r last ≡ admitResult image map (take (length image / 2 * 144) buffer) → r ≡ verdictOf image map (leastTable image)
+    → resulting r last ≡ admitResult image map (take (length image / 2 * 144) buffer) → r ≡ verdictOf image map (leastTable image)
 verdict image map pre buffer full e =
     let part = take (length image / 2 * 144) buffer in
     let long = part-long buffer (length image / 2 * 144) (omega (arith, pre .3)) in

@@ -14,7 +14,7 @@ ghost use Rattle.flow.specs.Flow.{turn, turnChanges, sweep, sweepChanges};
 ghost use Rattle.facts.specs.Facts.{unknown, resultFact, withCarryFact, putFact};
 ghost use Rattle.facts.specs.Record.{recordSize, depths};
 ghost use Rattle.cells.specs.Cells.{Bounded};
-ghost use Rattle.callers.specs.Callers.{spanIs, Within};
+ghost use Rattle.callers.specs.Callers.{spanIs, InImage};
 ghost use Rattle.transfer.specs.Passes.{pointAt, toward, gives, pageAddress, canBeExecuted, wordsAt, some, isReturn, wordPasses, allPasses, returnPasses, tableSpace, leastTable};
 ghost use Rattle.sweeps.specs.Sweeps.{Laid, Passed};
 use callers::Values;
@@ -67,7 +67,7 @@ fn pass_act(
     x: u16,
     d: usize,
 ) -> bool
-    requires { ⌜ Laid (now image) (now table) × (depth < 9) × Within (now image) pc × Bounded facts × (x ≤ unknown) ⌝ }
+    requires { ⌜ Laid (now image) (now table) × (depth < 9) × InImage (now image) pc × Bounded facts × (x ≤ unknown) ⌝ }
     ensures { λ r. ⌜ ((l : ℕ) → Passed (now (image .entry)) depth (now (table .entry)) (toward (wordCount (now (image .entry))) depth (pc + 1) (putFact (targetOf d l) (resultFact op (getD facts 0 unknown) x) (withCarryFact op (getD facts 0 unknown) x facts))) (now (table .exit)) r) ⌝ }
 {
     let after = cells::acts::facts_after(op, x, d, facts);
@@ -86,7 +86,7 @@ fn pass_operation(
     rl: usize,
     d: usize,
 ) -> bool
-    requires { ⌜ Laid (now image) (now table) × (depth < 9) × Within (now image) pc × Bounded facts × (rl < 8) ⌝ }
+    requires { ⌜ Laid (now image) (now table) × (depth < 9) × InImage (now image) pc × Bounded facts × (rl < 8) ⌝ }
     ensures { λ r. ⌜ Passed (now (image .entry)) depth (now (table .entry)) (wordPasses (wordCount (now (image .entry))) depth pc facts (actShape op s rl d)) (now (table .exit)) r ⌝ }
 {
     let x = cells::acts::fact_of(facts, s, machine::act::places(rl, d));
@@ -103,7 +103,7 @@ fn pass_constant(
     i: usize,
     d: usize,
 ) -> bool
-    requires { ⌜ Laid (now image) (now table) × (depth < 9) × Within (now image) pc × Bounded facts × (i < 256) ⌝ }
+    requires { ⌜ Laid (now image) (now table) × (depth < 9) × InImage (now image) pc × Bounded facts × (i < 256) ⌝ }
     ensures { λ r. ⌜ ((l : ℕ) → Passed (now (image .entry)) depth (now (table .entry)) (wordPasses (wordCount (now (image .entry))) depth pc facts (act (constant i) 0 (targetOf d l))) (now (table .exit)) r) ⌝ }
 {
     pass_act(image, table, depth, pc, facts, 0, i as u16, d)
@@ -121,7 +121,7 @@ fn pass_branch(
     page: usize,
     i: usize,
 ) -> bool
-    requires { ⌜ Laid (now image) (now table) × (depth < 9) × Within (now image) pc × Bounded facts × (l < 8) × IsPage page ⌝ }
+    requires { ⌜ Laid (now image) (now table) × (depth < 9) × InImage (now image) pc × Bounded facts × (l < 8) × IsPage page ⌝ }
     ensures { λ r. ⌜ Passed (now (image .entry)) depth (now (table .entry)) (wordPasses (wordCount (now (image .entry))) depth pc facts (go (sourceOf s 0 l) (branch page i))) (now (table .exit)) r ⌝ }
 {
     let v = callers::values_of(facts, s, l);
@@ -166,7 +166,7 @@ fn pass_word(
     facts: [u16; 11],
     word: Word,
 ) -> bool
-    requires { ⌜ Laid (now image) (now table) × (depth < 9) × Within (now image) pc × Bounded facts × InRange word ⌝ }
+    requires { ⌜ Laid (now image) (now table) × (depth < 9) × InImage (now image) pc × Bounded facts × InRange word ⌝ }
     ensures { λ r. ⌜ Passed (now (image .entry)) depth (now (table .entry)) (wordPasses (wordCount (now (image .entry))) depth pc facts (shapeOf word)) (now (table .exit)) r ⌝ }
 {
     match word {
@@ -227,7 +227,7 @@ fn pass_place(
     v: Values,
     k: usize,
 ) -> bool
-    requires { ⌜ Laid (now image) (now table) × (depth < 9) × Within (now image) pc × Bounded facts × IsPage page × (i < 256) × (v .low + v .count ≤ 256) × (k < page) ⌝ }
+    requires { ⌜ Laid (now image) (now table) × (depth < 9) × InImage (now image) pc × Bounded facts × IsPage page × (i < 256) × (v .low + v .count ≤ 256) × (k < page) ⌝ }
     ensures { λ r. ⌜ Passed (now (image .entry)) depth (now (table .entry)) (allPasses (wordCount (now (image .entry))) depth pc facts (pick (gives page i (spanIs v) k && canBeExecuted (now (image .entry)) (pageAddress page pc k)) (shapeAt (now (image .entry)) (pageAddress page pc k) ∷ []) [])) (now (table .exit)) r ⌝ }
 {
     if !callers::gives(page, i, v, k) {
@@ -253,7 +253,7 @@ fn pass_executed(
     page: usize,
     i: usize,
 ) -> bool
-    requires { ⌜ Laid (now image) (now table) × (depth < 9) × Within (now image) pc × Bounded facts × (l < 8) × IsPage page × (i < 256) ⌝ }
+    requires { ⌜ Laid (now image) (now table) × (depth < 9) × InImage (now image) pc × Bounded facts × (l < 8) × IsPage page × (i < 256) ⌝ }
     ensures { λ r. ⌜ Passed (now (image .entry)) depth (now (table .entry)) (allPasses (wordCount (now (image .entry))) depth pc facts (wordsAt (now (image .entry)) pc facts (go (sourceOf s 0 l) (defer page i)))) (now (table .exit)) r ⌝ }
 {
     let v = callers::values_of(facts, s, l);
@@ -276,7 +276,7 @@ fn pass_words(
     facts: [u16; 11],
     word: Word,
 ) -> bool
-    requires { ⌜ Laid (now image) (now table) × (depth < 9) × Within (now image) pc × Bounded facts × InRange word ⌝ }
+    requires { ⌜ Laid (now image) (now table) × (depth < 9) × InImage (now image) pc × Bounded facts × InRange word ⌝ }
     ensures { λ r. ⌜ Passed (now (image .entry)) depth (now (table .entry)) (allPasses (wordCount (now (image .entry))) depth pc facts (wordsAt (now (image .entry)) pc facts (shapeOf word))) (now (table .exit)) r ⌝ }
 {
     if let Word::XecRegister { s, i } = word {
@@ -314,7 +314,7 @@ fn pass_returns(
     facts: [u16; 11],
     word: Word,
 ) -> bool
-    requires { ⌜ Laid (now image) (now table) × (depth < 9) × Within (now image) pc × Bounded facts × InRange word ⌝ }
+    requires { ⌜ Laid (now image) (now table) × (depth < 9) × InImage (now image) pc × Bounded facts × InRange word ⌝ }
     ensures { λ r. ⌜ Passed (now (image .entry)) (depth - 1) (now (table .entry)) (pick (ltb 0 depth && some isReturn (wordsAt (now (image .entry)) pc facts (shapeOf word))) (returnPasses (now (image .entry)) (now (table .entry)) (depth - 1) facts) []) (now (table .exit)) r ⌝ }
 {
     if depth == 0 {
@@ -328,7 +328,7 @@ fn pass_returns(
 
 // The turn of a cell.
 fn turn(image: &[u8], table: &mut [u8], depth: usize, pc: usize) -> bool
-    requires { ⌜ Laid (now image) (now table) × (depth < 9) × Within (now image) pc ⌝ }
+    requires { ⌜ Laid (now image) (now table) × (depth < 9) × InImage (now image) pc ⌝ }
     ensures { λ r. ⌜ (now (table .exit) ≡ turn (tableSpace (now (image .entry))) (now (table .entry)) (pointAt (wordCount (now (image .entry))) depth pc)) × (r ≡ turnChanges (tableSpace (now (image .entry))) (now (table .entry)) (pointAt (wordCount (now (image .entry))) depth pc)) × Laid (now (image .entry)) (now (table .exit)) ⌝ }
 {
     let i = depth * (image.len() / 2) + pc;
