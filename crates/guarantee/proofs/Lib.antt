@@ -7,6 +7,6 @@ pub mod Granted
 pub mod WordSafe
 pub mod StepSafe
 pub mod ResetSafe
-pub mod Witness
 pub mod Demand3
 pub mod Admitted
+pub mod Witness

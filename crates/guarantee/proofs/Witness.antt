@@ -1,24 +1,32 @@
--- The assumptions of the step's theorem can be met: a program that calls, executes a RET by XEC and then waits.
-use mathlib.Core.Path.{_≡_, refl, sym, subst}
-use mathlib.Core.Bool.{Bool, true, _&&_}
+-- The assumptions of the theorems can be met: a program that calls, executes a RET by XEC and then waits.
+use mathlib.Core.Path.{_≡_, refl, sym, _∙_, subst, subst⁻¹}
+use mathlib.Core.Bool.{Bool, true, false, _&&_}
 use mathlib.Core.List.{List, [], _∷_}
 use Prim.Native.Nat.{ℕ, zero, suc, _<_, _*_}
 use native.Mathlib.Decide.{decLt}
 use native.Mathlib.Omega.{arith}
 use lib.Dec.{ltb, eqb}
-use lib.ListN.{getD, replicate, List·getD-eq-default}
+use lib.ListN.{length, getD, replicate, List·getD-eq-default}
 use borrow.Author.Tests.{ltb-true, eqb-true}
 use Rattle.choice.proofs.Laws.{and-first, and-second}
 use Rattle.field.specs.Field.{rotateRight}
 use Rattle.word.specs.Word.{decoded}
 use Rattle.machine.specs.Shape.{shapeOf, slotOf}
 use Rattle.machine.specs.Step.{wordCount}
-use Rattle.flow.specs.Flow.{Closed, allCovered}
-use Rattle.facts.specs.Facts.{allKnowNoMore}
-use Rattle.facts.specs.Record.{depths, resetCell, holdsCell, recordOf, maskOf, readCell, cellAt, putRecord, putCell}
-use Rattle.transfer.specs.Passes.{over, overDown, gives, wordsAt, some, wordPasses, allPasses, passesFrom, tableSpace, startTable}
+use Rattle.state.specs.State.{resetBytes}
+use Rattle.emulator.specs.Run.{imageFits}
+use Rattle.flow.specs.Flow.{joinAll, changesAll, sweepFrom, sweepChangesFrom, sweepChanges, sweeps, Closed, allCovered}
+use Rattle.flow.proofs.Filling.{sweeps-rest}
+use Rattle.facts.specs.Facts.{allKnowNoMore, joinFacts}
+use Rattle.facts.specs.Record.{depths, resetCell, holdsCell, joinCell, recordOf, maskOf, readCell, cellAt, putRecord, putCell}
+use Rattle.transfer.specs.Passes.{over, overDown, gives, wordsAt, some, wordPasses, allPasses, passesFrom, tableSpace, tableLength, startTable, leastTable}
 use Rattle.transfer.specs.Findings.{allBelow, findingAt, NoFinding}
 use Rattle.transfer.proofs.Membership.{same-or}
+use Rattle.transfer.proofs.TableLaws.{table-laws, start-begins}
+use Rattle.admission.specs.declared.AdmitAnswer.the-variants.{Admitted}
+use Rattle.admission.specs.Admission.{admitResult}
+use Rattle.guarantee.specs.Demand.{Job, Flawless}
+use Rattle.guarantee.proofs.Admitted.{admitted-when, admitted-demand}
 
 -- a test at each place below n
 every : ℕ → (ℕ → Bool) → Bool
@@ -71,3 +79,37 @@ witness-bytes k = by (decLt k 8)
     by : Dec (k < 8) → getD image k 0 < 256
     by (yes below) = ltb-true _ 256 (every-at 8 (λ j. ltb (getD image j 0) 256) image-bytes k below)
     by (no past) = omega (arith, List·getD-eq-default image 0 {n = k} (omega arith))
+
+-- ---- and admission admits it: one sweep fills the table, and the next changes nothing
+
+settled : sweepChanges (tableSpace image) (sweeps (tableSpace image) 1 (startTable image)) ≡ false
+unfolding joinAll changesAll sweepFrom sweepChangesFrom sweeps joinFacts joinCell allKnowNoMore holdsCell recordOf maskOf readCell cellAt putRecord over overDown gives wordsAt some wordPasses allPasses decoded shapeOf slotOf rotateRight
+settled = refl
+
+swept : sweeps (tableSpace image) 1 (startTable image) ≡ table
+unfolding table joinAll sweepFrom sweeps joinFacts joinCell recordOf maskOf readCell cellAt putRecord over overDown gives wordsAt some wordPasses allPasses decoded shapeOf slotOf rotateRight
+swept = refl
+
+witness-least : leastTable image ≡ table
+unfolding leastTable
+witness-least =
+    sweeps-rest (table-laws image witness-bytes) (startTable image) 1 432 (start-begins image witness-bytes (omega arith) .good) settled (omega arith)
+    ∙ swept
+
+witness-fits : imageFits image ≡ true
+unfolding imageFits
+witness-fits = refl
+
+pub witness-admitted : (lent : List ℕ) → length lent ≡ tableLength image → admitResult image map lent .answer ≡ Admitted
+witness-admitted lent long =
+    admitted-when image map lent
+    (record {
+      fits = witness-fits;
+      long = refl;
+      room = long;
+      clear = subst⁻¹ (NoFinding image map) witness-least witness-clean;
+    })
+
+-- so every list of its runs from reset is flawless
+pub witness-runs : (lent : List ℕ) → length lent ≡ tableLength image → (jobs : List Job) → Flawless image map (admitResult image map lent .table) resetBytes jobs
+witness-runs lent long = admitted-demand image map lent witness-bytes (witness-admitted lent long)

@@ -1,3 +1,4 @@
 pub mod Writing
 pub mod Answers
 pub mod Input
+pub mod Examples
