@@ -52,7 +52,7 @@ fn mark(image: &[u8], map: &[u8], table: &mut [u8]) -> AdmitAnswer
     let mut at_address = 0;
     let mut depth = 0;
     let mut pc = 0;
-    while depth < 9 {
+    while depth < facts::DEPTHS {
         let f = mark_cell(image, map, table, depth, pc);
         if number == 0 {
             number = f;
@@ -83,10 +83,10 @@ pub fn admit(image: &[u8], map: &[u8], table: &mut [u8]) -> AdmitAnswer
     if !emulator::image_fits(image) {
         return AdmitAnswer::Refused { number: 11 };
     }
-    if map.len() != 128 {
+    if map.len() != map::LENGTH {
         return AdmitAnswer::Refused { number: 12 };
     }
-    if table.len() != image.len() / 2 * 144 {
+    if table.len() != image.len() / 2 * facts::WORD_RECORDS {
         return AdmitAnswer::Refused { number: 13 };
     }
     sweeps::fill(image, table);

@@ -10,13 +10,11 @@ use lib.Pow.{pow-mono}
 use borrow.Author.Tests.{lt-leb, le-leb, lt-ltb, le-ltb, eqb-true, eqb-false, eq-eqb, ne-eqb}
 use Rattle.choice.specs.Choice.{pick}
 use Rattle.field.specs.Field.{widthOf}
-use Rattle.machine.specs.Shape.{Source, register, slotOf, sourceOf, defer, Shape, go, shapeOf}
-use Rattle.machine.specs.Step.{wordCount, wordAt, shapeAt, inPage}
+use Rattle.machine.specs.Shape.{Source, register, slotOf, sourceOf, defer, Shape, go}
+use Rattle.machine.specs.Step.{wordCount, shapeAt, inPage}
 use Rattle.machine.specs.Parts.{IsPage}
 use Rattle.facts.specs.Facts.{unknown, sourceFact, Span, spanOf}
 use Rattle.transfer.specs.Passes.{over, gives, pageAddress, canBeExecuted, isCall, isReturn, some, wordsAt}
-use Rattle.word.specs.declared.Word.{Word}
-use Rattle.word.specs.Word.{decoded}
 use Rattle.callers.specs.declared.Values.{Values}
 use Rattle.callers.specs.Callers.{spanIs}
 use Rattle.callers.proofs.Words.{asked-is-no-xec}
@@ -138,11 +136,11 @@ module _ (image : List ℕ) (pc page i : ℕ) (v : Values) (k : ℕ) (returns : 
       nothing false c = refl
 
   pub is-executed : k < page → (b : Bool) → b ≡ gives page i (spanIs v) k → not b ≡ false → {a : ℕ} → a ≡ inPage page pc k → a < wordCount image
-      → {w : Word} → w ≡ decoded (wordAt image a) → {r : Bool} → r ≡ pick returns isReturn isCall (shapeOf w) → r ≡ performed
-  is-executed short false given n {a} e h {w} read {r} told = absurd (true≢false n)
-  is-executed short true given n {a} e h {w} read {r} told =
+      → {s : Shape} → s ≡ shapeAt image a → {r : Bool} → r ≡ pick returns isReturn isCall s → r ≡ performed
+  is-executed short false given n {a} e h {s} read {r} told = absurd (true≢false n)
+  is-executed short true given n {a} e h {s} read {r} told =
       let at : a ≡ pageAddress page pc k = e ∙ in-page page pc k short in
-      let shape : shapeOf w ≡ shapeAt image (pageAddress page pc k) = ap shapeOf read ∙ ap (λ x. shapeAt image x) at in
+      let shape : s ≡ shapeAt image (pageAddress page pc k) = read ∙ ap (λ x. shapeAt image x) at in
       let inside : ltb (pageAddress page pc k) (wordCount image) ≡ true = rw (← at) (lt-ltb a (wordCount image) h) in
       told ∙ ap (pick returns isReturn isCall) shape ∙ sym (asked-is-no-xec returns (shapeAt image (pageAddress page pc k)))
       ∙ (rw (← given, inside) refl)

@@ -4,10 +4,8 @@ use mathlib.Core.Bool.{Bool, true, false, _&&_, not, true≢false, false≢true}
 use mathlib.Core.List.{List}
 use Prim.Native.Nat.{ℕ, _≤_, _<_}
 use lib.ListN.{getD}
-use Rattle.word.specs.declared.Word.{Word}
-use Rattle.word.specs.Word.{decoded}
-use Rattle.machine.specs.Shape.{shapeOf}
-use Rattle.machine.specs.Step.{wordCount, wordAt, shapeAt}
+use Rattle.machine.specs.Shape.{Shape}
+use Rattle.machine.specs.Step.{wordCount, shapeAt}
 use Rattle.facts.specs.declared.Cell.{Cell}
 use Rattle.facts.specs.Facts.{unknown}
 use Rattle.facts.specs.Record.{cellAt}
@@ -23,9 +21,9 @@ module _ (image table : List ℕ) (depth a : ℕ) where
       none true d h = absurd (false≢true h)
       none false d h = refl
 
-  pub site : {c : Cell} → c ≡ cellAt table (pointAt (wordCount image) depth a) → not (c .reached) ≡ false → {w : Word} → w ≡ decoded (wordAt image a)
-      → {r : Bool} → r ≡ some isCall (wordsAt image a (c .facts) (shapeOf w)) → r ≡ isCallSite image table depth a
-  site {c} e h {w} read {r} told = told ∙ ap (λ v. some isCall (wordsAt image a (c .facts) (shapeOf v))) read ∙ (rw (← e) (yes-site (c .reached) h))
+  pub site : {c : Cell} → c ≡ cellAt table (pointAt (wordCount image) depth a) → not (c .reached) ≡ false → {s : Shape} → s ≡ shapeAt image a
+      → {r : Bool} → r ≡ some isCall (wordsAt image a (c .facts) s) → r ≡ isCallSite image table depth a
+  site {c} e h {s} read {r} told = told ∙ ap (λ x. some isCall (wordsAt image a (c .facts) x)) read ∙ (rw (← e) (yes-site (c .reached) h))
     where
       yes-site : (b : Bool) {d : Bool} → not b ≡ false → d ≡ b && d
       yes-site true h = refl

@@ -3,15 +3,14 @@ ghost use mathlib.Core.Bool.{_&&_};
 ghost use mathlib.Core.Path.{_≡_};
 ghost use Prim.Native.Nat.{_+_, _%_, _≤_, _<_};
 ghost use Rattle.choice.specs.Choice.{pick};
-ghost use Rattle.word.specs.Word.{InRange};
-ghost use Rattle.machine.specs.Shape.{sourceOf, go, defer, shapeOf};
-ghost use Rattle.machine.specs.Parts.{IsPage};
+ghost use Rattle.machine.specs.Shape.{sourceOf, go, defer};
+ghost use Rattle.machine.specs.Parts.{IsPage, shapeIs, FormFits};
 ghost use Rattle.machine.specs.Step.{wordCount, shapeAt};
 ghost use Rattle.facts.specs.Facts.{spanOf};
 ghost use Rattle.cells.specs.Cells.{Bounded};
 ghost use Rattle.transfer.specs.Passes.{gives, pageAddress, canBeExecuted, isCall, isReturn, some, wordsAt, isCallSite};
 ghost use Rattle.callers.specs.Callers.{spanIs, InImage, Held};
-use word::Word;
+use machine::form::Form;
 
 // The values that a source may have: count of them from low on.
 pub struct Values {
@@ -24,9 +23,9 @@ pub fn values_of(facts: [u16; 11], s: usize, l: usize) -> Values
     requires { ⌜ Bounded facts × (l < 8) ⌝ }
     ensures { λ r. ⌜ (spanIs r ≡ spanOf (sourceOf s 0 l) facts) × (r .low + r .count ≤ 256) ⌝ }
 {
-    if s < 16 {
+    if s < word::FIRST_BANK {
         let f = cells::acts::fact_of(facts, s, 0);
-        if f == 256 {
+        if f == facts::UNKNOWN {
             return Values { low: 0, count: 256 };
         }
         return Values {
@@ -63,32 +62,32 @@ pub fn gives(page: usize, i: usize, v: Values, k: usize) -> bool
     kept(page, k + back) < v.count
 }
 
-pub fn is_call(word: Word) -> bool
-    ensures { λ r. ⌜ r ≡ isCall (shapeOf word) ⌝ }
+pub fn is_call(form: Form) -> bool
+    ensures { λ r. ⌜ r ≡ isCall (shapeIs form) ⌝ }
 {
-    if let Word::Call { i } = word {
+    if let Form::Call { i } = form {
         return true;
     }
     false
 }
 
-pub fn is_return(word: Word) -> bool
-    ensures { λ r. ⌜ r ≡ isReturn (shapeOf word) ⌝ }
+pub fn is_return(form: Form) -> bool
+    ensures { λ r. ⌜ r ≡ isReturn (shapeIs form) ⌝ }
 {
-    if let Word::Ret = word {
+    if let Form::Return = form {
         return true;
     }
     false
 }
 
 // Is the word a RET, or else a CALL?
-fn is_asked(word: Word, returns: bool) -> bool
-    ensures { λ r. ⌜ r ≡ pick returns isReturn isCall (shapeOf word) ⌝ }
+fn is_asked(form: Form, returns: bool) -> bool
+    ensures { λ r. ⌜ r ≡ pick returns isReturn isCall (shapeIs form) ⌝ }
 {
     if returns {
-        return is_return(word);
+        return is_return(form);
     }
-    is_call(word)
+    is_call(form)
 }
 
 // May an XEC at pc execute a RET, or else a CALL, at place k of its page?
@@ -111,7 +110,7 @@ fn performs_at(
     if image.len() / 2 <= a {
         return false;
     }
-    is_asked(machine::word_at(image, a), returns)
+    is_asked(machine::form_at(image, a), returns)
 }
 
 // The same at any place.
@@ -140,17 +139,14 @@ fn xec_performs(
 }
 
 // May the cell at pc with these facts and its word execute a RET, or else a CALL?
-pub fn performs(image: &[u8], pc: usize, facts: [u16; 11], word: Word, returns: bool) -> bool
-    requires { ⌜ InImage (now image) pc × Bounded facts × InRange word ⌝ }
-    ensures { λ r. ⌜ r ≡ some (pick returns isReturn isCall) (wordsAt (now (image .entry)) pc facts (shapeOf word)) ⌝ }
+pub fn performs(image: &[u8], pc: usize, facts: [u16; 11], form: Form, returns: bool) -> bool
+    requires { ⌜ InImage (now image) pc × Bounded facts × FormFits form ⌝ }
+    ensures { λ r. ⌜ r ≡ some (pick returns isReturn isCall) (wordsAt (now (image .entry)) pc facts (shapeIs form)) ⌝ }
 {
-    if let Word::XecRegister { s, i } = word {
-        return xec_performs(image, pc, facts, s, 0, 256, i, returns);
+    if let Form::Defer { s, l, page, i } = form {
+        return xec_performs(image, pc, facts, s, l, page, i, returns);
     }
-    if let Word::XecBank { s, l, i } = word {
-        return xec_performs(image, pc, facts, s, l, 32, i, returns);
-    }
-    is_asked(word, returns)
+    is_asked(form, returns)
 }
 
 // Is the cell at an address and depth reached, and may it execute a CALL?
@@ -163,5 +159,5 @@ pub fn is_call_site(image: &[u8], table: &[u8], depth: usize, a: usize) -> bool
         return false;
     }
     let facts = c.facts;
-    performs(image, a, facts, machine::word_at(image, a), false)
+    performs(image, a, facts, machine::form_at(image, a), false)
 }

@@ -5,16 +5,19 @@ ghost use lib.ListN.{getD};
 ghost use Rattle.choice.specs.Choice.{pick};
 ghost use Rattle.field.specs.Field.{rotateRight};
 ghost use Rattle.machine.specs.Shape.{sourceOf, targetOf};
+ghost use Rattle.machine.specs.Parts.{deliverySource};
 ghost use Rattle.facts.specs.Facts.{unknown, isKnown, sourceFact, resultFact, carryFact, withCarryFact, putFact};
 ghost use Rattle.cells.specs.Cells.{Bounded};
+use facts::UNKNOWN;
+use machine::act::Delivery;
 
 // The fact of a register rotated by places.
 fn rotated(f: u16, places: usize) -> u16
     requires { ⌜ (f ≤ unknown) × (places < 8) ⌝ }
     ensures { λ r. ⌜ (r ≡ pick (isKnown f) (rotateRight places f) unknown) × (r ≤ unknown) ⌝ }
 {
-    if f == 256 {
-        return 256;
+    if f == UNKNOWN {
+        return UNKNOWN;
     }
     field::rotate(f as u8, places) as u16
 }
@@ -24,11 +27,23 @@ pub fn fact_of(facts: [u16; 11], s: usize, places: usize) -> u16
     requires { ⌜ Bounded facts × (places < 8) ⌝ }
     ensures { λ r. ⌜ ((l : ℕ) → r ≡ sourceFact (sourceOf s places l) facts) × (r ≤ unknown) ⌝ }
 {
-    if s < 16 {
+    if s < word::FIRST_BANK {
         let k = machine::act::slot_of(s);
         return rotated(facts[k], places);
     }
-    256
+    UNKNOWN
+}
+
+// The fact of an act's source.
+pub fn argument_fact(facts: [u16; 11], a: Delivery) -> u16
+    requires { ⌜ Bounded facts × (a .rl < 8) × (a .i < 256) ⌝ }
+    ensures { λ r. ⌜ (r ≡ sourceFact (deliverySource a) facts) × (r ≤ unknown) ⌝ }
+{
+    let kind = a.kind;
+    if kind == 1 {
+        return a.i as u16;
+    }
+    fact_of(facts, a.s, machine::act::places(a.rl, a.d))
 }
 
 // The fact of a result: MOVE reads the source alone, ADD, AND and XOR read AUX too.
@@ -36,14 +51,14 @@ pub fn result_fact(op: usize, aux: u16, x: u16) -> u16
     requires { ⌜ (aux ≤ unknown) × (x ≤ unknown) ⌝ }
     ensures { λ r. ⌜ (r ≡ resultFact op aux x) × (r ≤ unknown) ⌝ }
 {
-    if x == 256 {
-        return 256;
+    if x == UNKNOWN {
+        return UNKNOWN;
     }
     if op == 0 {
         return x;
     }
-    if aux == 256 {
-        return 256;
+    if aux == UNKNOWN {
+        return UNKNOWN;
     }
     machine::act::result(op, aux as u8, x as u8) as u16
 }
@@ -53,11 +68,11 @@ pub fn carry_fact(aux: u16, x: u16) -> u16
     requires { ⌜ (aux ≤ unknown) × (x ≤ unknown) ⌝ }
     ensures { λ r. ⌜ (r ≡ carryFact aux x) × (r ≤ unknown) ⌝ }
 {
-    if x == 256 {
-        return 256;
+    if x == UNKNOWN {
+        return UNKNOWN;
     }
-    if aux == 256 {
-        return 256;
+    if aux == UNKNOWN {
+        return UNKNOWN;
     }
     field::carry(aux as u8, x as u8) as u16
 }
@@ -69,7 +84,7 @@ fn with_carry_fact(op: usize, aux: u16, x: u16, facts: [u16; 11]) -> [u16; 11]
 {
     if op == 1 {
         let mut after = facts;
-        after[8] = carry_fact(aux, x);
+        after[state::OVERFLOW] = carry_fact(aux, x);
         return after;
     }
     facts
@@ -81,7 +96,7 @@ pub fn facts_after(op: usize, x: u16, d: usize, facts: [u16; 11]) -> [u16; 11]
     ensures { λ r. ⌜ ((l : ℕ) → r ≡ putFact (targetOf d l) (resultFact op (getD facts 0 unknown) x) (withCarryFact op (getD facts 0 unknown) x facts)) ⌝ }
 {
     let aux = facts[0];
-    if d < 16 {
+    if d < word::FIRST_BANK {
         let k = machine::act::slot_of(d);
         let mut after = with_carry_fact(op, aux, x, facts);
         after[k] = result_fact(op, aux, x);

@@ -11,6 +11,8 @@ ghost use Rattle.facts.specs.Facts.{factCount, unknown, isKnown, knowsNoMore, a
 ghost use Rattle.facts.specs.Record.{recordSize, factsFrom, readCell, cellAt, maskOf, valueByte, recordOf, putRecord, putCell, FineCell, holdsCell, joinCell};
 ghost use Rattle.cells.specs.Cells.{HasCell};
 use facts::Cell;
+use facts::RECORD;
+use facts::UNKNOWN;
 
 // Which facts are known, low byte first.
 fn mask(low: u8, high: u8) -> u16
@@ -27,7 +29,7 @@ fn fact(mask: u16, k: usize, value: u8) -> u16
     if (mask >> k) % 2 == 1 {
         return value as u16;
     }
-    256
+    UNKNOWN
 }
 
 fn load_facts(b: &[u8]) -> [u16; 11]
@@ -66,8 +68,8 @@ pub fn load(table: &[u8], i: usize) -> Cell
     requires { ⌜ recordSize * i + recordSize ≤ length (now table) ⌝ }
     ensures { λ r. ⌜ r ≡ cellAt (now (table .entry)) i ⌝ }
 {
-    let a = 16 * i;
-    let e = a + 16;
+    let a = RECORD * i;
+    let e = a + RECORD;
     load_record(&table[a..e])
 }
 
@@ -76,7 +78,7 @@ pub fn reached(table: &[u8], i: usize) -> bool
     requires { ⌜ recordSize * i + recordSize ≤ length (now table) ⌝ }
     ensures { λ r. ⌜ r ≡ cellAt (now (table .entry)) i .reached ⌝ }
 {
-    table[16 * i] == 1
+    table[RECORD * i] == 1
 }
 
 // The mask of a fact and of those after it.
@@ -84,7 +86,7 @@ fn more(f: u16, rest: u16) -> u16
     requires { ⌜ rest < 1024 ⌝ }
     ensures { λ r. ⌜ (r ≡ pick (isKnown f) 1 0 + 2 * rest) × (r ≤ 1 + 2 * rest) ⌝ }
 {
-    if f == 256 {
+    if f == UNKNOWN {
         return 2 * rest;
     }
     1 + 2 * rest
@@ -112,7 +114,7 @@ fn flag(reached: bool) -> u8
 }
 
 // A cell's record, with its finding.
-fn record_of(c: Cell, finding: u8) -> [u8; 16]
+fn record_of(c: Cell, finding: u8) -> [u8; RECORD]
     requires { ⌜ FineCell c ⌝ }
     ensures { λ r. ⌜ r ≡ recordOf c finding ⌝ }
 {
@@ -144,15 +146,15 @@ pub fn store(table: &mut [u8], i: usize, c: Cell, finding: u8)
     ensures { λ _. ⌜ now (table .exit) ≡ putRecord (now (table .entry)) i (recordOf c finding) ⌝ }
 {
     let b = record_of(c, finding);
-    let a = 16 * i;
-    let e = a + 16;
+    let a = RECORD * i;
+    let e = a + RECORD;
     bytes::copy(&b, &mut table[a..e]);
 }
 
 fn knows_no_more(f: u16, g: u16) -> bool
     ensures { λ r. ⌜ r ≡ knowsNoMore f g ⌝ }
 {
-    (f == 256) | (f == g)
+    (f == UNKNOWN) | (f == g)
 }
 
 fn all_know_no_more(f: [u16; 11], g: [u16; 11]) -> bool
@@ -190,7 +192,7 @@ pub fn holds(c: Cell, d: Cell) -> bool
 fn join_fact(f: u16, g: u16) -> u16
     ensures { λ r. ⌜ r ≡ joinFact f g ⌝ }
 {
-    if f == g { f } else { 256 }
+    if f == g { f } else { UNKNOWN }
 }
 
 fn join_facts(f: [u16; 11], g: [u16; 11]) -> [u16; 11]

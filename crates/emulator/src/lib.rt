@@ -157,10 +157,10 @@ pub fn run(
     if !image_fits(image) {
         return RunAnswer::Refused { number: 11 };
     }
-    if map.len() != 128 {
+    if map.len() != map::LENGTH {
         return RunAnswer::Refused { number: 12 };
     }
-    if state.len() != 36 {
+    if state.len() != state::LENGTH {
         return RunAnswer::Refused { number: 14 };
     }
     let s = state::load(state);

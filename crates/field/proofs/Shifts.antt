@@ -1,12 +1,12 @@
 -- The code's shifts and masks, as the digits that the definitions speak of: a above the field, w its width,
 -- k below it. Assumes nothing.
-use mathlib.Core.Path.{_≡_, sym, ap, ap₂, _∙_, subst}
+use mathlib.Core.Path.{_≡_, sym, ap, ap₂, _∙_, subst, subst⁻¹}
 use Prim.Native.Nat.{ℕ, _+_, _-_, _*_, _/_, _%_, _^_, _<_, _≤_, min}
 use native.Mathlib.Nat.{add-comm, add-zero, mul-assoc, one-mul, mod-lt, mod-eq-of-lt, mul-mod-left, lt-of-lt-of-le}
 use native.Mathlib.Nat.{min-eq-left, min-eq-right}
-use native.Mathlib.Decide.{decLe}
+use native.Mathlib.Decide.{decLe, ℕ-discrete}
 use native.Mathlib.Omega.{arith}
-use lib.Bits.{bitAnd, bitOr, and-block, and-mask, or-block, or-shifted, or-zero-r}
+use lib.Bits.{bitAnd, bitOr, and-block, and-mask, or-block, or-self, or-shifted, or-zero-r}
 use lib.Pow.{pow-add, pow-pos, pow-mono, pow-lt, low, split, mod-pow-add, mod-mod-pow, ones-lt, ones-split}
 use lib.Pow.{shl-shr, shr-lt, shr-mod}
 use Rattle.field.specs.Field.{rotateRight, widthOf, block, mergeInto}
@@ -92,14 +92,28 @@ shl-byte n {p} hp = ap (λ (m : ℕ). n * 2 ^ (7 - p) % 2 ^ m) all ∙ shl-low n
     all : 8 ≡ p + 1 + (7 - p)
     all = omega arith
 
-pub shifts-rotate : (p : ℕ) {x : ℕ} → p < 8 → x < 256 → bitOr (x * 2 ^ (8 - p) % 256) (x / 2 ^ p) ≡ rotateRight p x
+pub shifts-rotate : (p : ℕ) {x : ℕ} → p < 8 → x < 256 → bitOr (x * 2 ^ ((8 - p) % 8) % 256) (x / 2 ^ p) ≡ rotateRight p x
 unfolding rotateRight
-shifts-rotate p {x} hp =
-    subst (λ (n : ℕ). x < 2 ^ n → bitOr (x * 2 ^ (8 - p) % 2 ^ n) (x / 2 ^ p) ≡ turn (8 - p) p x) all
-    (shifts-turn (8 - p) p)
+shifts-rotate p {x} hp hx = either (ℕ-discrete p 0)
   where
+    Turned : ℕ → ℕ → Type 0
+    Turned s k = bitOr (x * 2 ^ s % 256) (x / 2 ^ k) ≡ x % 2 ^ k * 2 ^ (8 - k) + x / 2 ^ k
+
+    none : Turned 0 0
+    none =
+        let shifted : x * 1 % 256 ≡ x = omega arith in
+        let kept : x / 1 ≡ x = omega arith in
+        let back : x ≡ x % 1 * 256 + x / 1 = omega arith in
+        ap₂ bitOr shifted kept ∙ or-self x ∙ back
+
     all : 8 - p + p ≡ 8
     all = omega arith
+
+    either : Dec (p ≡ 0) → Turned ((8 - p) % 8) p
+    either (yes e) = subst⁻¹ (λ (k : ℕ). Turned ((8 - k) % 8) k) e none
+    either (no n) =
+        subst⁻¹ (λ (s : ℕ). Turned s p) (mod-eq-of-lt (omega arith))
+        (subst (λ (n : ℕ). x < 2 ^ n → bitOr (x * 2 ^ (8 - p) % 2 ^ n) (x / 2 ^ p) ≡ turn (8 - p) p x) all (shifts-turn (8 - p) p) hx)
 
 -- the code of merge, for the field mask n
 abbrev pub merged : ℕ → ℕ → ℕ → ℕ → ℕ

@@ -9,10 +9,7 @@ pub fn rotate(x: u8, places: usize) -> u8
     requires { ⌜ places < 8 ⌝ }
     ensures { λ r. ⌜ r ≡ rotateRight places x ⌝ }
 {
-    if places == 0 {
-        return x;
-    }
-    x << (8 - places) | x >> places
+    x << ((8 - places) % 8) | x >> places
 }
 
 // A byte of length ones at its low end.

@@ -5,19 +5,20 @@ ghost use Prim.Native.Nat.{ℕ, _+_, _-_, _≤_, _<_};
 ghost use lib.Dec.{ltb};
 ghost use lib.ListN.{length, getD};
 ghost use Rattle.choice.specs.Choice.{ask};
-ghost use Rattle.word.specs.Word.{InRange};
 ghost use Rattle.map.specs.Map.{mapLength};
-ghost use Rattle.machine.specs.Shape.{sourceOf, targetOf, actShape, register, constant, go, branch, defer, call, return, act, shapeOf};
+ghost use Rattle.machine.specs.Shape.{sourceOf, targetOf, register, constant, go, branch, defer, call, return};
 ghost use Rattle.machine.specs.Step.{wordCount};
-ghost use Rattle.machine.specs.Parts.{IsPage};
+ghost use Rattle.machine.specs.Parts.{IsPage, deliverySource, shapeOfDelivery, shapeIs, FormFits};
 ghost use Rattle.facts.specs.Facts.{unknown, resultFact};
 ghost use Rattle.cells.specs.Cells.{Bounded};
 ghost use Rattle.callers.specs.Callers.{InImage, Held};
 ghost use Rattle.transfer.specs.Passes.{isDefer, isCallSite, pointAt};
 ghost use Rattle.transfer.specs.Findings.{readQuestions, targetQuestions, allBelow, wordFindings, executedFindings, deferFindings, findingAt};
 ghost use Rattle.findings.specs.Findings.{Tells};
+use facts::UNKNOWN;
 use machine::Fetched;
-use word::Word;
+use machine::act::Delivery;
+use machine::form::Form;
 
 fn wide(x: u16) -> usize
     ensures { λ r. ⌜ r ≡ x ⌝ }
@@ -30,12 +31,12 @@ fn read_finding(map: &[u8], facts: [u16; 11], s: usize) -> u8
     requires { ⌜ (length (now map) ≡ mapLength) × Bounded facts ⌝ }
     ensures { λ r. ⌜ ((places l : ℕ) → Tells r (readQuestions (now (map .entry)) (sourceOf s places l) facts)) ⌝ }
 {
-    if s < 16 {
+    if s < word::FIRST_BANK {
         return 0;
     }
     let bank = s / 8 % 2;
-    let a = facts[9 + bank];
-    if a == 256 {
+    let a = facts[state::ADDRESS + bank];
+    if a == UNKNOWN {
         return 28;
     }
     if !map::readable(map, bank, wide(a)) {
@@ -49,22 +50,22 @@ fn target_finding(map: &[u8], facts: [u16; 11], d: usize, y: u16) -> u8
     requires { ⌜ (length (now map) ≡ mapLength) × Bounded facts × (y ≤ unknown) ⌝ }
     ensures { λ r. ⌜ ((l : ℕ) → Tells r (targetQuestions (now (map .entry)) (targetOf d l) y facts)) ⌝ }
 {
-    if d < 16 {
+    if d < word::FIRST_BANK {
         let k = machine::act::slot_of(d);
-        if k < 9 {
+        if k < state::ADDRESS {
             return 0;
         }
-        if y == 256 {
+        if y == UNKNOWN {
             return 28;
         }
-        if !map::listed(map, k - 9, wide(y)) {
+        if !map::listed(map, k - state::ADDRESS, wide(y)) {
             return 25;
         }
         return 0;
     }
     let bank = d / 8 % 2;
-    let a = facts[9 + bank];
-    if a == 256 {
+    let a = facts[state::ADDRESS + bank];
+    if a == UNKNOWN {
         return 28;
     }
     if !map::writable(map, bank, wide(a)) {
@@ -101,26 +102,29 @@ fn deliver_finding(
     next_finding(image, pc + 1)
 }
 
-// MOVE, ADD, AND, XOR: opcode 0 to 3.
-fn act_finding(
-    image: &[u8],
-    map: &[u8],
-    pc: usize,
-    facts: [u16; 11],
-    op: usize,
-    s: usize,
-    rl: usize,
-    d: usize,
-) -> u8
-    requires { ⌜ InImage (now image) pc × (length (now map) ≡ mapLength) × Bounded facts × (rl < 8) ⌝ }
-    ensures { λ r. ⌜ ((table : List ℕ) (depth : ℕ) → Tells r (wordFindings (now (image .entry)) (now (map .entry)) table depth pc facts (actShape op s rl d))) ⌝ }
+// Question 2 of an act; a constant is no bank.
+fn argument_finding(map: &[u8], facts: [u16; 11], a: Delivery) -> u8
+    requires { ⌜ (length (now map) ≡ mapLength) × Bounded facts ⌝ }
+    ensures { λ r. ⌜ Tells r (readQuestions (now (map .entry)) (deliverySource a) facts) ⌝ }
 {
-    let f = read_finding(map, facts, s);
+    let kind = a.kind;
+    if kind == 1 {
+        return 0;
+    }
+    read_finding(map, facts, a.s)
+}
+
+// MOVE, ADD, AND, XOR and XMIT.
+fn act_finding(image: &[u8], map: &[u8], pc: usize, facts: [u16; 11], a: Delivery) -> u8
+    requires { ⌜ InImage (now image) pc × (length (now map) ≡ mapLength) × Bounded facts × (a .rl < 8) × (a .i < 256) ⌝ }
+    ensures { λ r. ⌜ ((table : List ℕ) (depth : ℕ) → Tells r (wordFindings (now (image .entry)) (now (map .entry)) table depth pc facts (shapeOfDelivery a))) ⌝ }
+{
+    let f = argument_finding(map, facts, a);
     if f != 0 {
         return f;
     }
-    let x = cells::acts::fact_of(facts, s, machine::act::places(rl, d));
-    deliver_finding(image, map, pc, facts, op, x, d)
+    let x = cells::acts::argument_fact(facts, a);
+    deliver_finding(image, map, pc, facts, a.op, x, a.d)
 }
 
 // NZT of the source s, or of its field of length l where it is a bank.
@@ -153,7 +157,7 @@ fn call_finding(image: &[u8], depth: usize, pc: usize, facts: [u16; 11], i: usiz
     requires { ⌜ InImage (now image) pc × Bounded facts × (i < 256) ⌝ }
     ensures { λ r. ⌜ ((map table : List ℕ) → Tells r (wordFindings (now (image .entry)) map table depth pc facts (go (register 0 0) (call i)))) ⌝ }
 {
-    if 8 <= depth {
+    if state::PLACES <= depth {
         return 26;
     }
     let v = callers::values_of(facts, 0, 0);
@@ -186,64 +190,40 @@ fn word_finding(
     pc: usize,
     facts: [u16; 11],
     back: bool,
-    word: Word,
+    form: Form,
 ) -> u8
-    requires { ⌜ InImage (now image) pc × (length (now map) ≡ mapLength) × Bounded facts × InRange word ⌝ }
-    ensures { λ r. ⌜ ((table : List ℕ) → back ≡ allBelow (wordCount (now (image .entry))) (wordCount (now (image .entry))) (isCallSite (now (image .entry)) table (depth - 1)) → Tells r (wordFindings (now (image .entry)) (now (map .entry)) table depth pc facts (shapeOf word))) ⌝ }
+    requires { ⌜ InImage (now image) pc × (length (now map) ≡ mapLength) × Bounded facts × FormFits form ⌝ }
+    ensures { λ r. ⌜ ((table : List ℕ) → back ≡ allBelow (wordCount (now (image .entry))) (wordCount (now (image .entry))) (isCallSite (now (image .entry)) table (depth - 1)) → Tells r (wordFindings (now (image .entry)) (now (map .entry)) table depth pc facts (shapeIs form))) ⌝ }
 {
-    match word {
-        Word::Move { s, rl, d } => {
-            return act_finding(image, map, pc, facts, 0, s, rl, d);
+    match form {
+        Form::Act(a) => {
+            return act_finding(image, map, pc, facts, a);
         }
-        Word::Add { s, rl, d } => {
-            return act_finding(image, map, pc, facts, 1, s, rl, d);
-        }
-        Word::And { s, rl, d } => {
-            return act_finding(image, map, pc, facts, 2, s, rl, d);
-        }
-        Word::Xor { s, rl, d } => {
-            return act_finding(image, map, pc, facts, 3, s, rl, d);
-        }
-        Word::XecRegister { s, i } => {
-            return read_finding(map, facts, s);
-        }
-        Word::XecBank { s, l, i } => {
-            return read_finding(map, facts, s);
-        }
-        Word::NztRegister { s, i } => {
-            return branch_finding(image, map, pc, facts, s, 0, 256, i);
-        }
-        Word::NztBank { s, l, i } => {
-            return branch_finding(image, map, pc, facts, s, l, 32, i);
-        }
-        Word::Call { i } => {
-            return call_finding(image, depth, pc, facts, i);
-        }
-        Word::Ret => {
-            return return_finding(depth, back);
-        }
-        Word::XmitRegister { d, i } => {
-            return deliver_finding(image, map, pc, facts, 0, i as u16, d);
-        }
-        Word::XmitBank { d, l, i } => {
-            return deliver_finding(image, map, pc, facts, 0, i as u16, d);
-        }
-        Word::Jmp { a } => {
+        Form::Jump { a } => {
             return next_finding(image, a);
         }
-        Word::Invalid => {
+        Form::Branch { s, l, page, i } => {
+            return branch_finding(image, map, pc, facts, s, l, page, i);
+        }
+        Form::Defer { s, l, page, i } => {
+            return read_finding(map, facts, s);
+        }
+        Form::Call { i } => {
+            return call_finding(image, depth, pc, facts, i);
+        }
+        Form::Return => {
+            return return_finding(depth, back);
+        }
+        Form::Invalid => {
             return 22;
         }
     }
 }
 
-fn is_xec(word: Word) -> bool
-    ensures { λ r. ⌜ r ≡ isDefer (shapeOf word) ⌝ }
+fn is_xec(form: Form) -> bool
+    ensures { λ r. ⌜ r ≡ isDefer (shapeIs form) ⌝ }
 {
-    if let Word::XecRegister { s, i } = word {
-        return true;
-    }
-    if let Word::XecBank { s, l, i } = word {
+    if let Form::Defer { s, l, page, i } = form {
         return true;
     }
     false
@@ -265,13 +245,14 @@ fn executed_finding(
     if image.len() / 2 <= a {
         return 21;
     }
-    let Fetched::Valid(word) = machine::fetch(image, a) else {
+    let Fetched::Valid(word) = machine::fetched_of(machine::word_at(image, a)) else {
         return 22;
     };
-    if is_xec(word) {
+    let form = machine::form::form_of(word);
+    if is_xec(form) {
         return 29;
     }
-    word_finding(image, map, depth, pc, facts, back, word)
+    word_finding(image, map, depth, pc, facts, back, form)
 }
 
 // Question 8 of an XEC of the source s, or of its field of length l where it is a bank.
@@ -313,16 +294,13 @@ fn defer_finding(
     pc: usize,
     facts: [u16; 11],
     back: bool,
-    word: Word,
+    form: Form,
 ) -> u8
-    requires { ⌜ InImage (now image) pc × (length (now map) ≡ mapLength) × Bounded facts × InRange word ⌝ }
-    ensures { λ r. ⌜ ((table : List ℕ) → back ≡ allBelow (wordCount (now (image .entry))) (wordCount (now (image .entry))) (isCallSite (now (image .entry)) table (depth - 1)) → Tells r (deferFindings (now (image .entry)) (now (map .entry)) table depth pc facts (shapeOf word))) ⌝ }
+    requires { ⌜ InImage (now image) pc × (length (now map) ≡ mapLength) × Bounded facts × FormFits form ⌝ }
+    ensures { λ r. ⌜ ((table : List ℕ) → back ≡ allBelow (wordCount (now (image .entry))) (wordCount (now (image .entry))) (isCallSite (now (image .entry)) table (depth - 1)) → Tells r (deferFindings (now (image .entry)) (now (map .entry)) table depth pc facts (shapeIs form))) ⌝ }
 {
-    if let Word::XecRegister { s, i } = word {
-        return xec_finding(image, map, depth, pc, facts, back, s, 0, 256, i);
-    }
-    if let Word::XecBank { s, l, i } = word {
-        return xec_finding(image, map, depth, pc, facts, back, s, l, 32, i);
+    if let Form::Defer { s, l, page, i } = form {
+        return xec_finding(image, map, depth, pc, facts, back, s, l, page, i);
     }
     0
 }
@@ -353,13 +331,14 @@ pub fn cell_finding(image: &[u8], map: &[u8], table: &[u8], depth: usize, pc: us
         return 0;
     }
     let facts = c.facts;
-    let Fetched::Valid(word) = machine::fetch(image, pc) else {
+    let Fetched::Valid(word) = machine::fetched_of(machine::word_at(image, pc)) else {
         return 22;
     };
+    let form = machine::form::form_of(word);
     let back = returns_inside(image, table, below(depth));
-    let f = word_finding(image, map, depth, pc, facts, back, word);
+    let f = word_finding(image, map, depth, pc, facts, back, form);
     if f != 0 {
         return f;
     }
-    defer_finding(image, map, depth, pc, facts, back, word)
+    defer_finding(image, map, depth, pc, facts, back, form)
 }

@@ -121,7 +121,7 @@ fn put_answer(out: &mut [u8], map: &[u8], image: &[u8]) -> usize
     ensures { λ r. ⌜ Written (now (out .entry)) 0 (wordsLine (now (map .entry)) (now (image .entry))) (now (out .exit)) r × (r < 64) ⌝ }
 {
     let words = image.len() / 2;
-    let size = words * 144;
+    let size = words * facts::WORD_RECORDS;
     let mut table = table_buffer();
     match admission::admit(image, map, &mut table[..size]) {
         AdmitAnswer::Refused { number } => {
@@ -145,16 +145,16 @@ fn put_words(out: &mut [u8], input: &[u8]) -> usize
     requires { ⌜ 64 ≤ length (now out) ⌝ }
     ensures { λ r. ⌜ Written (now (out .entry)) 0 (asked (inputQuestions (now (input .entry))) (wordsLine (take mapLength (now (input .entry))) (drop mapLength (now (input .entry)))) doorLine) (now (out .exit)) r × (r < 64) ⌝ }
 {
-    if input.len() < 128 {
+    if input.len() < map::LENGTH {
         return put_door(out, 12);
     }
     if 928 < input.len() {
         return put_door(out, 18);
     }
-    if !emulator::image_fits(&input[128..]) {
+    if !emulator::image_fits(&input[map::LENGTH..]) {
         return put_door(out, 11);
     }
-    put_answer(out, &input[..128], &input[128..])
+    put_answer(out, &input[..map::LENGTH], &input[map::LENGTH..])
 }
 
 // Makes the line of an input, the map and then the image; its length.

@@ -19,11 +19,11 @@ module _ (map : List ℕ) (op x : ℕ) (q : Sequencer) (v l s w : List ℕ) (y :
   unfolding actState
   to-register k h hy hw he = rw (he, hw, hy, lt-leb 9 k h)
 
-  pub to-address : (k a : ℕ) → 9 ≤ k → y ≡ resultOf op (getD v 0 0) x → listed map (k - 9) y ≡ true → w ≡ withOverflow op (getD v 0 0) x v
-      → a ≡ getD (set w k y) k 0 → e ≡ actEffect q (k - 8) a 0
+  pub to-address : (k a kind : ℕ) → 9 ≤ k → y ≡ resultOf op (getD v 0 0) x → listed map (k - 9) y ≡ true → w ≡ withOverflow op (getD v 0 0) x v
+      → a ≡ getD (set w k y) k 0 → kind ≡ k - 8 → e ≡ actEffect q kind a 0
       → outcome e (set w k y) l s ≡ delivered map op x (slot k) (whole q v l s)
   unfolding actState
-  to-address k a h hy hm hw ha he = rw (he, ha, hw, le-leb 9 k h, ← hy, hm)
+  to-address k a kind h hy hm hw ha hk he = rw (he, hk, ha, hw, le-leb 9 k h, ← hy, hm)
 
   pub to-bank : (b p n m a z : ℕ) → writable map b (getD v (9 + b) 0) ≡ true → y ≡ resultOf op (getD v 0 0) x → w ≡ withOverflow op (getD v 0 0) x v
       → m ≡ mergeInto p n y (getD l b 0) → a ≡ getD w (9 + b) 0 → z ≡ getD (set l b m) b 0 → e ≡ actEffect q (3 + b) a z

@@ -1,8 +1,7 @@
 pub mod Deliver
-pub mod Delivering
 pub mod Direct
 pub mod Fetching
-pub mod Retold
+pub mod Forming
 pub mod Values
 pub mod InRange
 pub mod Keeps

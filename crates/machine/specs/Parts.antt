@@ -12,10 +12,12 @@ use Rattle.machine.specs.declared.Sequencer.{Sequencer}
 use Rattle.machine.specs.declared.Effect.{Effect}
 use Rattle.machine.specs.declared.Fetched.{Fetched}
 use Rattle.word.specs.declared.Word.{Word}
-use Rattle.word.specs.declared.Word.the-variants.{Move, Add, And, Xor, XecRegister, XecBank, NztRegister, NztBank, Call, Ret, XmitRegister, XmitBank, Jmp, Invalid}
+use Rattle.word.specs.declared.Word.the-variants.{Invalid as Unlisted}
+use Rattle.machine.specs.declared.form.Form.{Form}
+use Rattle.machine.specs.declared.form.Form.the-variants.{Act, Jump, Branch, Defer, Call, Return, Invalid}
 use Rattle.machine.specs.declared.Fetched.the-variants.{Valid, Invalid as None}
 use Rattle.machine.specs.declared.act.Delivery.{Delivery}
-use Rattle.machine.specs.Shape.{Source, constant, Target, Shape, act, sourceOf, targetOf, placesOf}
+use Rattle.machine.specs.Shape.{Source, register, constant, Target, Shape, act, go, invalid, jump, branch, defer, call, return, sourceOf, targetOf, placesOf}
 use Rattle.machine.specs.Step.{Outcome, wordCount, resultOf, actState, targetTrace, mayWrite, mayChoose, cameToStop}
 
 -- the state of a machine that is not stopped, from its sequencer, values, latches and call stack
@@ -119,22 +121,30 @@ deliverySource a = pick (eqb (a .kind) 1) (constant (a .i)) (sourceOf (a .s) (pl
 abbrev pub shapeOfDelivery : Delivery → Shape
 shapeOfDelivery a = act (deliverySource a) (a .op) (targetOf (a .d) (a .rl))
 
--- a word that directs PC, or is invalid
-abbrev pub Directs : Word → Type 0
-Directs (Move s rl d) = ⊥
-Directs (Add s rl d) = ⊥
-Directs (And s rl d) = ⊥
-Directs (Xor s rl d) = ⊥
-Directs (XecRegister s i) = Unit
-Directs (XecBank s l i) = Unit
-Directs (NztRegister s i) = Unit
-Directs (NztBank s l i) = Unit
-Directs (Call i) = Unit
-Directs Ret = Unit
-Directs (XmitRegister d i) = ⊥
-Directs (XmitBank d l i) = ⊥
-Directs (Jmp a) = Unit
-Directs Invalid = Unit
+-- the shape that a form stands for
+abbrev pub shapeIs : Form → Shape
+shapeIs (Act a) = shapeOfDelivery a
+shapeIs (Jump a) = go (constant 0) (jump a)
+shapeIs (Branch s l page i) = go (sourceOf s 0 l) (branch page i)
+shapeIs (Defer s l page i) = go (sourceOf s 0 l) (defer page i)
+shapeIs (Call i) = go (register 0 0) (call i)
+shapeIs Return = go (constant 0) return
+shapeIs Invalid = invalid
+
+-- what the code relies on: places and lengths are below 8, constants are bytes, a page is one of the two
+abbrev pub FormFits : Form → Type 0
+FormFits (Act a) = (a .rl < 8) × (a .i < 256)
+FormFits (Jump a) = Unit
+FormFits (Branch s l page i) = (l < 8) × IsPage page
+FormFits (Defer s l page i) = (l < 8) × IsPage page × (i < 256)
+FormFits (Call i) = i < 256
+FormFits Return = Unit
+FormFits Invalid = Unit
+
+-- What is fetched: the decoded word, or none exactly where it is invalid.
+abbrev pub Fetches : Word → Fetched → Type 0
+Fetches word (Valid w) = (word ≡ w) × (word ≡ Unlisted → ⊥)
+Fetches word None = word ≡ Unlisted
 
 -- What a word needs to be executed: a map of its length, a PC inside an image of at most 8,192 words, a depth
 -- within the stack.
@@ -142,23 +152,6 @@ pub record Ready (map : List ℕ) (q : Sequencer) : Type 0 where
   pub long : length map ≡ mapLength
   pub near : q .pc < 8192
   pub shallow : q .depth ≤ stackPlaces
-
--- a fetched word, told apart from an invalid one
-abbrev pub fetchedOf : Word → Fetched
-fetchedOf (Move s rl d) = Valid (Move s rl d)
-fetchedOf (Add s rl d) = Valid (Add s rl d)
-fetchedOf (And s rl d) = Valid (And s rl d)
-fetchedOf (Xor s rl d) = Valid (Xor s rl d)
-fetchedOf (XecRegister s i) = Valid (XecRegister s i)
-fetchedOf (XecBank s l i) = Valid (XecBank s l i)
-fetchedOf (NztRegister s i) = Valid (NztRegister s i)
-fetchedOf (NztBank s l i) = Valid (NztBank s l i)
-fetchedOf (Call i) = Valid (Call i)
-fetchedOf Ret = Valid Ret
-fetchedOf (XmitRegister d i) = Valid (XmitRegister d i)
-fetchedOf (XmitBank d l i) = Valid (XmitBank d l i)
-fetchedOf (Jmp a) = Valid (Jmp a)
-fetchedOf Invalid = None
 
 -- What a step needs: at most 8,192 words, a map of its length, and of a well-formed state that PC is near while an
 -- XEC is pending, and that the depth is within the stack.

@@ -21,12 +21,12 @@ pub fn slot_of(r: usize) -> usize
         return 7;
     }
     if r == 8 {
-        return 8;
+        return state::OVERFLOW;
     }
     if r == 7 {
-        return 9;
+        return state::ADDRESS;
     }
-    10
+    state::ADDRESS + 1
 }
 
 fn wide(x: u8) -> usize
@@ -48,11 +48,11 @@ pub fn may_read(map: &[u8], values: &[u8; 11], s: usize) -> bool
     requires { ⌜ length (now map) ≡ mapLength ⌝ }
     ensures { λ r. ⌜ ((places l : ℕ) → r ≡ mayRead (now (map .entry)) (sourceOf s places l) (now (values .entry))) ⌝ }
 {
-    if s < 16 {
+    if s < word::FIRST_BANK {
         return true;
     }
     let bank = s / 8 % 2;
-    map::readable(map, bank, wide(values[9 + bank]))
+    map::readable(map, bank, wide(values[state::ADDRESS + bank]))
 }
 
 // The source: a register rotated by places, or a bank's field of length l.
@@ -60,7 +60,7 @@ pub fn operand(values: &[u8; 11], left: u8, right: u8, s: usize, places: usize, 
     requires { ⌜ (places < 8) × (l < 8) ⌝ }
     ensures { λ r. ⌜ r ≡ valueOf (sourceOf s places l) (now (values .entry)) (left ∷ right ∷ []) ⌝ }
 {
-    if s < 16 {
+    if s < word::FIRST_BANK {
         let k = slot_of(s);
         return field::rotate(values[k], places);
     }
@@ -88,7 +88,7 @@ fn set_overflow(op: usize, aux: u8, x: u8, values: &mut [u8; 11])
     ensures { λ _. ⌜ now (values .exit) ≡ withOverflow op aux x (now (values .entry)) ⌝ }
 {
     if op == 1 {
-        values[8] = field::carry(aux, x);
+        values[state::OVERFLOW] = field::carry(aux, x);
     }
 }
 
@@ -115,18 +115,19 @@ fn to_slot(map: &[u8], op: usize, x: u8, k: usize, q: Sequencer, values: &mut [u
     ensures { λ r. ⌜ ((l s : List ℕ) → outcome r (now (values .exit)) l s ≡ delivered (now (map .entry)) op x (slot k) (whole q (now (values .entry)) l s)) ⌝ }
 {
     let aux = values[0];
-    let y = result(op, aux, x);
-    if k < 9 {
+    if k < state::ADDRESS {
+        let y = result(op, aux, x);
         set_overflow(op, aux, x, values);
         values[k] = y;
         return went(q, 0, 0, 0);
     }
-    if !map::listed(map, k - 9, wide(y)) {
+    let y = result(op, aux, x);
+    if !map::listed(map, k - state::ADDRESS, wide(y)) {
         return crate::stop(q, 25);
     }
     set_overflow(op, aux, x, values);
     values[k] = y;
-    went(q, k - 8, wide(values[k]), 0)
+    went(q, k + 1 - state::ADDRESS, wide(values[k]), 0)
 }
 
 // To a bank: merged into its latch, which is then the byte written at its address.
@@ -145,13 +146,18 @@ fn to_latch(
 {
     let aux = values[0];
     let bank = d / 8 % 2;
-    if !map::writable(map, bank, wide(values[9 + bank])) {
+    if !map::writable(map, bank, wide(values[state::ADDRESS + bank])) {
         return crate::stop(q, 24);
     }
     let y = result(op, aux, x);
     set_overflow(op, aux, x, values);
     latches[bank] = field::merge(latches[bank], y, d % 8, l);
-    went(q, 3 + bank, wide(values[9 + bank]), wide(latches[bank]))
+    went(
+        q,
+        3 + bank,
+        wide(values[state::ADDRESS + bank]),
+        wide(latches[bank]),
+    )
 }
 
 // Delivers the source x to the target d, of length l in a bank.
@@ -168,7 +174,7 @@ fn deliver(
     requires { ⌜ Ready (now map) q × (l < 8) ⌝ }
     ensures { λ r. ⌜ ((s : List ℕ) → outcome r (now (values .exit)) (now (latches .exit)) s ≡ delivered (now (map .entry)) op x (targetOf d l) (whole q (now (values .entry)) (now (latches .entry)) s)) ⌝ }
 {
-    if d < 16 {
+    if d < word::FIRST_BANK {
         let k = slot_of(d);
         return to_slot(map, op, x, k, q, values);
     }
@@ -180,7 +186,7 @@ pub fn places(rl: usize, d: usize) -> usize
     requires { ⌜ rl < 8 ⌝ }
     ensures { λ r. ⌜ (r ≡ placesOf rl d) × (r < 8) ⌝ }
 {
-    if d < 16 { rl } else { 0 }
+    if d < word::FIRST_BANK { rl } else { 0 }
 }
 
 // A word that delivers a source to a target: where kind is 0 the source s, where it is 1 the constant i; 2 is no such word.

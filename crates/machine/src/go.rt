@@ -7,6 +7,8 @@ ghost use Rattle.machine.specs.Step.{inPage, wordStep};
 ghost use Rattle.machine.specs.Parts.{whole, outcome, goEffect, deferEffect, Ready, IsPage};
 use crate::Effect;
 use crate::Sequencer;
+use crate::form::LONG_PAGE;
+use crate::form::SHORT_PAGE;
 
 // On at another PC; flag and pending address zero.
 pub fn go_to(pc: usize, depth: usize) -> Effect
@@ -45,10 +47,10 @@ pub fn in_page(page: usize, pc: usize, x: usize) -> usize
     requires { ⌜ IsPage page × (pc < 8192) ⌝ }
     ensures { λ r. ⌜ r ≡ inPage page pc x ⌝ }
 {
-    if page == 256 {
-        return pc / 256 * 256 + x % 256;
+    if page == LONG_PAGE {
+        return pc / LONG_PAGE * LONG_PAGE + x % LONG_PAGE;
     }
-    pc / 32 * 32 + x % 32
+    pc / SHORT_PAGE * SHORT_PAGE + x % SHORT_PAGE
 }
 
 fn wide(x: u8) -> usize
@@ -116,7 +118,7 @@ pub fn call(i: usize, q: Sequencer, values: &[u8; 11], returns: &mut [u16; 8]) -
     ensures { λ r. ⌜ ((map bus l : List ℕ) → outcome r (now (values .entry)) l (now (returns .exit)) ≡ wordStep map (go (register 0 0) (call i)) bus (whole q (now (values .entry)) l (now (returns .entry)))) ⌝ }
 {
     let depth = q.depth;
-    if depth == 8 {
+    if depth == state::PLACES {
         return crate::stop(q, 26);
     }
     returns[depth] = (q.pc + 1) as u16;

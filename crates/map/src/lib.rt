@@ -4,6 +4,9 @@ ghost use Prim.Native.Nat.{_<_};
 ghost use lib.ListN.{length};
 ghost use Rattle.map.specs.Map.{mapLength, inSet, readable, writable, listed, countOf, counted, countsOf, counting};
 
+// Bytes of a map.
+pub const LENGTH: usize = 128;
+
 // The counts of the four sets, or the refusal 12.
 pub enum Counts {
     Sets {
@@ -67,7 +70,7 @@ fn set_size(map: &[u8], set: usize) -> usize
 pub fn count(map: &[u8]) -> Counts
     ensures { λ r. ⌜ (r ≡ counted (now (map .entry))) × (countsOf r ≡ counting (now (map .entry))) ⌝ }
 {
-    if map.len() != 128 {
+    if map.len() != LENGTH {
         return Counts::Refused;
     }
     Counts::Sets {

@@ -4,6 +4,16 @@ ghost use Prim.Native.Nat.{_<_, _+_, _*_};
 ghost use lib.ListN.{length};
 ghost use Rattle.state.specs.State.{stateLength, stackPlaces, bytesFrom, numbersFrom, loaded, stored, flagFits, placeFits, stackFits, isStop, wellFormed, resetAnswerOf, resetNumber, resetNumberOf, resetState};
 
+// Bytes of a state, and places of its call stack.
+pub const LENGTH: usize = 36;
+
+pub const PLACES: usize = 8;
+
+// Among the eleven values: the slot of OVF, and of the left bus address, with the right one after it.
+pub const OVERFLOW: usize = 8;
+
+pub const ADDRESS: usize = 9;
+
 // Values in the order of the eleven facts of a table record: AUX, R1-R6, R11, OVF, left and right bus address.
 pub struct State {
     pub pc: usize,
@@ -12,7 +22,7 @@ pub struct State {
     pub values: [u8; 11],
     pub latches: [u8; 2],
     pub depth: usize,
-    pub returns: [u16; 8],
+    pub returns: [u16; PLACES],
     pub stop: usize,
 }
 
@@ -60,7 +70,7 @@ fn load_values(b: &[u8]) -> [u8; 11]
     ]
 }
 
-fn load_returns(b: &[u8]) -> [u16; 8]
+fn load_returns(b: &[u8]) -> [u16; PLACES]
     requires { ⌜ length (now b) ≡ stateLength ⌝ }
     ensures { λ r. ⌜ r ≡ numbersFrom (now (b .entry)) 19 8 ⌝ }
 {
@@ -109,7 +119,7 @@ fn place_fits(depth: usize, place: usize, r: u16) -> bool
     if place < depth { r <= 8192 } else { r == 0 }
 }
 
-fn stack_fits(depth: usize, r: [u16; 8]) -> bool
+fn stack_fits(depth: usize, r: [u16; PLACES]) -> bool
     ensures { λ b. ⌜ b ≡ stackFits depth r stackPlaces ⌝ }
 {
     place_fits(depth, 0, r[0])
@@ -133,12 +143,12 @@ pub fn well_formed(s: State) -> bool
 {
     let values = s.values;
     let returns = s.returns;
-    (flag_fits(s.flag, s.pc, s.pending) & (values[8] < 2))
-        & (((s.depth <= 8) & stack_fits(s.depth, returns)) & is_stop(s.stop))
+    (flag_fits(s.flag, s.pc, s.pending) & (values[OVERFLOW] < 2))
+        & (((s.depth <= PLACES) & stack_fits(s.depth, returns)) & is_stop(s.stop))
 }
 
 // The state's 36 bytes.
-fn bytes_of(s: State) -> [u8; 36]
+fn bytes_of(s: State) -> [u8; LENGTH]
     ensures { λ r. ⌜ r ≡ stored s ⌝ }
 {
     let v = s.values;
@@ -196,10 +206,10 @@ pub fn store(s: State, bytes: &mut [u8])
 pub fn reset(bytes: &mut [u8]) -> ResetAnswer
     ensures { λ r. ⌜ (r ≡ resetAnswerOf (now (bytes .entry))) × (resetNumber r ≡ resetNumberOf (now (bytes .entry))) × (now (bytes .exit) ≡ resetState (now (bytes .entry))) ⌝ }
 {
-    if bytes.len() != 36 {
+    if bytes.len() != LENGTH {
         return ResetAnswer::Refused;
     }
-    let zeros = [0u8; 36];
+    let zeros = [0u8; LENGTH];
     bytes::copy(&zeros, bytes);
     ResetAnswer::Done
 }

@@ -9,9 +9,10 @@ use lib.ListN.{getD}
 use borrow.Author.Tests.{lt-ltb, le-ltb}
 use Rattle.choice.specs.Choice.{pick}
 use Rattle.state.specs.State.{stackPlaces}
-use Rattle.word.specs.declared.Word.{Word}
-use Rattle.machine.specs.Shape.{Source, register, branch, call, go, sourceOf, targetOf, placesOf, actShape, slotOf, shapeOf}
+use Rattle.machine.specs.declared.form.Form.{Form}
+use Rattle.machine.specs.Shape.{Source, Target, register, branch, call, act, go, sourceOf, slotOf}
 use Rattle.machine.specs.Step.{wordCount, inPage}
+use Rattle.machine.specs.Parts.{shapeIs}
 use Rattle.flow.specs.Flow.{Pass}
 use Rattle.facts.specs.declared.Cell.{Cell}
 use Rattle.facts.specs.Facts.{unknown, sourceFact, resultFact, withCarryFact, putFact, Span, spanOf, mayBeZero, mayBeOther}
@@ -21,7 +22,7 @@ use Rattle.callers.specs.declared.Values.{Values}
 use Rattle.callers.specs.Callers.{spanIs}
 use Rattle.sweeps.specs.Sweeps.{Passed}
 use Rattle.sweeps.proofs.Lists.{over-none, over-more}
-use Rattle.sweeps.proofs.Passing.{passed-none, passed-then, passed-higher}
+use Rattle.sweeps.proofs.Passing.{passed-as, passed-none, passed-then, passed-higher}
 
 -- NZT: on, and then away
 pub branch-passed : (image : List ℕ) (depth pc : ℕ) (facts : List ℕ) (source : Source) (page i : ℕ) (v : Values) (a : ℕ) {t u w : List ℕ} {r s : Bool}
@@ -50,16 +51,13 @@ calledTo words depth facts i low n = over low n (λ v. true) (λ v. toward words
 
 module _ (image : List ℕ) (depth : ℕ) (facts : List ℕ) (i : ℕ) (low : ℕ) where
   pub call-begins : {t : List ℕ} → Layout (depths * wordCount image) t → Passed image depth t (calledTo (wordCount image) depth facts i low 0) t false
-  call-begins {t = t} g =
-      subst (λ (ps : List (Pass Cell)). Passed image depth t ps t false)
-      (sym (over-none (λ v. true) (λ v. toward (wordCount image) (depth + 1) (v * 256 + i) facts) low)) (passed-none g)
+  call-begins g = passed-as (over-none (λ v. true) (λ v. toward (wordCount image) (depth + 1) (v * 256 + i) facts) low) (passed-none g)
 
   pub call-next : (n : ℕ) {t u w : List ℕ} {r s : Bool} → Passed image depth t (calledTo (wordCount image) depth facts i low n) u r
       → Passed image (depth + 1) u (toward (wordCount image) (depth + 1) ((low + n) * 256 + i) facts) w s
       → Passed image depth t (calledTo (wordCount image) depth facts i low (n + 1)) w (r || s)
-  call-next n {t = t} {w = w} {r = r} {s = s} p q =
-      subst (λ (ps : List (Pass Cell)). Passed image depth t ps w (r || s))
-      (sym (over-more (λ v. true) (λ v. toward (wordCount image) (depth + 1) (v * 256 + i) facts) low n))
+  call-next n p q =
+      passed-as (over-more (λ v. true) (λ v. toward (wordCount image) (depth + 1) (v * 256 + i) facts) low n)
       (passed-then p (passed-higher (omega arith) q))
 
 -- all of them, at a depth below 8
@@ -79,19 +77,19 @@ pub call-none : (image : List ℕ) (depth pc : ℕ) (facts : List ℕ) (i : ℕ)
 unfolding wordPasses
 call-none image depth pc facts i t e g = rw (le-ltb depth stackPlaces (omega arith)) (passed-none g)
 
--- ---- acts, and a word by its case
-pub act-passed : (image : List ℕ) (depth pc : ℕ) (facts : List ℕ) (op s rl d : ℕ) {places x : ℕ} {t u : List ℕ} {r : Bool} → places ≡ placesOf rl d
-    → x ≡ sourceFact (sourceOf s places rl) facts
-    → Passed image depth t (toward (wordCount image) depth (pc + 1) (putFact (targetOf d rl) (resultFact op (getD facts 0 unknown) x) (withCarryFact op (getD facts 0 unknown) x facts))) u r
-    → Passed image depth t (wordPasses (wordCount image) depth pc facts (actShape op s rl d)) u r
+-- ---- acts
+pub act-passed : (image : List ℕ) (depth pc : ℕ) (facts : List ℕ) (source : Source) (op : ℕ) (target : Target) {x : ℕ} {after : List ℕ} {t u : List ℕ} {r : Bool}
+    → x ≡ sourceFact source facts → after ≡ putFact target (resultFact op (getD facts 0 unknown) x) (withCarryFact op (getD facts 0 unknown) x facts)
+    → Passed image depth t (toward (wordCount image) depth (pc + 1) after) u r
+    → Passed image depth t (wordPasses (wordCount image) depth pc facts (act source op target)) u r
 unfolding wordPasses
-act-passed image depth pc facts op s rl d {t = t} {u = u} {r = r} e h p =
-    subst
-    (λ (y : ℕ). Passed image depth t (toward (wordCount image) depth (pc + 1) (putFact (targetOf d rl) (resultFact op (getD facts 0 unknown) y) (withCarryFact op (getD facts 0 unknown) y facts))) u r)
-    (h ∙ ap (λ (n : ℕ). sourceFact (sourceOf s n rl) facts) e) p
+act-passed image depth pc facts source op target {x = x} e h p =
+    passed-as
+    (ap (toward (wordCount image) depth (pc + 1))
+    (sym (h ∙ ap (λ (y : ℕ). putFact target (resultFact op (getD facts 0 unknown) y) (withCarryFact op (getD facts 0 unknown) y facts)) e))) p
 
-pub retold : (image t : List ℕ) (depth pc : ℕ) (facts : List ℕ) {u : List ℕ} {r : Bool} {w v : Word} → w ≡ v
-    → Passed image depth t (wordPasses (wordCount image) depth pc facts (shapeOf v)) u r
-    → Passed image depth t (wordPasses (wordCount image) depth pc facts (shapeOf w)) u r
-retold image t depth pc facts {u = u} {r = r} e p =
-    subst (λ (x : Word). Passed image depth t (wordPasses (wordCount image) depth pc facts (shapeOf x)) u r) (sym e) p
+-- ---- what a form's case passes on, the form does
+pub retold : (image : List ℕ) (depth pc : ℕ) (facts : List ℕ) {t u : List ℕ} {r : Bool} {f g : Form} → f ≡ g
+    → Passed image depth t (wordPasses (wordCount image) depth pc facts (shapeIs g)) u r
+    → Passed image depth t (wordPasses (wordCount image) depth pc facts (shapeIs f)) u r
+retold image depth pc facts e p = passed-as (ap (λ (f : Form). wordPasses (wordCount image) depth pc facts (shapeIs f)) e) p

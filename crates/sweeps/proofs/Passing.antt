@@ -1,5 +1,5 @@
 -- What passes joined into a table leave: none, some and then others, and one.
-use mathlib.Core.Path.{_≡_, refl, sym, _∙_, ap, ap₂, subst}
+use mathlib.Core.Path.{_≡_, refl, sym, _∙_, ap, ap₂, subst, subst⁻¹}
 use mathlib.Core.Bool.{Bool, true, false, not, _||_, false≢true}
 use mathlib.Core.List.{List, [], _∷_, _++_}
 use Prim.Native.Nat.{ℕ, _*_, _≤_, _<_}
@@ -47,6 +47,10 @@ after-bounded facts op x target l b h = go (ltb x 256) refl
         subst Made (sym e) (after-fine (bank 0 0 0) op target facts (omega arith) (record { long = l; bounded = b }) .bounded)
 
 module _ {image : List ℕ} where
+  -- what is told of one list of passes holds of the list that equals it
+  pub passed-as : {d : ℕ} {t u : List ℕ} {ps qs : List (Pass Cell)} {r : Bool} → ps ≡ qs → Passed image d t qs u r → Passed image d t ps u r
+  passed-as {d = d} {t = t} {u = u} {r = r} e p = subst⁻¹ (λ (l : List (Pass Cell)). Passed image d t l u r) e p
+
   pub passed-none : {d : ℕ} {t : List ℕ} → Layout (depths * wordCount image) t → Passed image d t [] t false
   passed-none {t = t} g =
       record {

@@ -7,10 +7,8 @@ use native.Mathlib.Omega.{arith}
 use lib.Dec.{ltb}
 use borrow.Author.Tests.{not-true, not-false}
 use Rattle.choice.specs.Choice.{pick}
-use Rattle.word.specs.declared.Word.{Word}
-use Rattle.word.specs.Word.{decoded}
-use Rattle.machine.specs.Shape.{Shape, shapeOf}
-use Rattle.machine.specs.Step.{wordCount, wordAt}
+use Rattle.machine.specs.Shape.{Shape}
+use Rattle.machine.specs.Step.{wordCount, shapeAt}
 use Rattle.flow.specs.Flow.{Pass, turn, turnChanges}
 use Rattle.flow.proofs.Rest.{turn-nothing, turnChanges-nothing}
 use Rattle.facts.specs.declared.Cell.{Cell}
@@ -18,7 +16,7 @@ use Rattle.facts.specs.Record.{cellAt}
 use Rattle.transfer.specs.Passes.{pointAt, isReturn, some, wordsAt, allPasses, returnPasses, cellPasses, passesFrom, tableSpace}
 use Rattle.callers.proofs.Points.{point-depth, point-address}
 use Rattle.sweeps.specs.Sweeps.{Laid, Passed}
-use Rattle.sweeps.proofs.Passing.{passed-then, passed-higher}
+use Rattle.sweeps.proofs.Passing.{passed-as, passed-then, passed-higher}
 use Rattle.sweeps.proofs.Returning.{back-same}
 
 module _ (image t : List ℕ) (depth pc : ℕ) (h : pc < wordCount image) where
@@ -35,28 +33,28 @@ module _ (image t : List ℕ) (depth pc : ℕ) (h : pc < wordCount image) where
       (sym (turn-nothing (tableSpace image) t point none), sym (turnChanges-nothing (tableSpace image) t point none), g)
 
   -- a cell that is reached
-  passes-eq : {b : Bool} {c : Cell} {w : Word} (u : List ℕ) → b ≡ cellAt t point .reached → c ≡ cellAt t point → not b ≡ false → w ≡ decoded (wordAt image pc)
+  passes-eq : {b : Bool} {c : Cell} {w : Shape} (u : List ℕ) → b ≡ cellAt t point .reached → c ≡ cellAt t point → not b ≡ false → w ≡ shapeAt image pc
       → ((i : ℕ) → i < depth * wordCount image → cellAt u i ≡ cellAt t i)
-      → allPasses (wordCount image) depth pc (c .facts) (wordsAt image pc (c .facts) (shapeOf w)) ++
-      pick (ltb 0 depth && some isReturn (wordsAt image pc (c .facts) (shapeOf w))) (returnPasses image u (depth - 1) (c .facts)) []
+      → allPasses (wordCount image) depth pc (c .facts) (wordsAt image pc (c .facts) w) ++
+      pick (ltb 0 depth && some isReturn (wordsAt image pc (c .facts) w)) (returnPasses image u (depth - 1) (c .facts)) []
       ≡ passesFrom image t point
   passes-eq {b = b} {c = c} {w = w} u here e n read kept =
       let yes : cellAt t point .reached ≡ true = sym here ∙ not-false b n in
-      ap (λ (l : List (Pass Cell)). allPasses (wordCount image) depth pc (c .facts) (wordsAt image pc (c .facts) (shapeOf w)) ++ l)
-      (back-same image t depth (c .facts) (some isReturn (wordsAt image pc (c .facts) (shapeOf w))) u kept)
+      ap (λ (l : List (Pass Cell)). allPasses (wordCount image) depth pc (c .facts) (wordsAt image pc (c .facts) w) ++ l)
+      (back-same image t depth (c .facts) (some isReturn (wordsAt image pc (c .facts) w)) u kept)
       ∙ ap (λ (s : Shape). allPasses (wordCount image) depth pc (c .facts) (wordsAt image pc (c .facts) s) ++
       pick (ltb 0 depth && some isReturn (wordsAt image pc (c .facts) s)) (returnPasses image t (depth - 1) (c .facts)) [])
-      (ap shapeOf read)
+      read
       ∙ ap (λ (x : Cell). cellPasses image t depth pc (x .facts)) e
       ∙ sym (ap₂ (λ (d a : ℕ). cellPasses image t d a (cellAt t point .facts)) (point-depth (wordCount image) depth pc h) (point-address (wordCount image) depth pc h))
       ∙ sym (ap (λ (b : Bool). pick b (cellPasses image t (point / wordCount image) (point % wordCount image) (cellAt t point .facts)) []) yes)
 
-  pub turn-done : {b : Bool} {c : Cell} {w : Word} {u v : List ℕ} {r s : Bool} → wordCount image ≤ 8192
-      → b ≡ cellAt t (pointAt (wordCount image) depth pc) .reached → c ≡ cellAt t (pointAt (wordCount image) depth pc) → not b ≡ false → w ≡ decoded (wordAt image pc)
-      → Passed image depth t (allPasses (wordCount image) depth pc (c .facts) (wordsAt image pc (c .facts) (shapeOf w))) u r
-      → Passed image (depth - 1) u (pick (ltb 0 depth && some isReturn (wordsAt image pc (c .facts) (shapeOf w))) (returnPasses image u (depth - 1) (c .facts)) []) v s
+  pub turn-done : {b : Bool} {c : Cell} {w : Shape} {u v : List ℕ} {r s : Bool} → wordCount image ≤ 8192
+      → b ≡ cellAt t (pointAt (wordCount image) depth pc) .reached → c ≡ cellAt t (pointAt (wordCount image) depth pc) → not b ≡ false → w ≡ shapeAt image pc
+      → Passed image depth t (allPasses (wordCount image) depth pc (c .facts) (wordsAt image pc (c .facts) w)) u r
+      → Passed image (depth - 1) u (pick (ltb 0 depth && some isReturn (wordsAt image pc (c .facts) w)) (returnPasses image u (depth - 1) (c .facts)) []) v s
       → (v ≡ turn (tableSpace image) t (pointAt (wordCount image) depth pc)) × ((r || s) ≡ turnChanges (tableSpace image) t (pointAt (wordCount image) depth pc)) × Laid image v
   turn-done {u = u} {v = v} {r = r} {s = s} words here e n read p q =
       let all : Passed image (depth - 1) t (passesFrom image t point) v (r || s) =
-      subst (λ (ps : List (Pass Cell)). Passed image (depth - 1) t ps v (r || s)) (passes-eq u here e n read (p .kept)) (passed-then (passed-higher (omega arith) p) q) in
+      passed-as (sym (passes-eq u here e n read (p .kept))) (passed-then (passed-higher (omega arith) p) q) in
       (all .table, all .flag, record { words = words; layout = all .laid })

@@ -4,14 +4,12 @@ ghost use mathlib.Core.Bool.{_&&_};
 ghost use mathlib.Core.List.{[], _∷_};
 ghost use Prim.Native.Nat.{ℕ, _+_, _-_, _*_, _≤_, _<_};
 ghost use lib.Dec.{ltb};
-ghost use lib.ListN.{length, getD, replicate};
+ghost use lib.ListN.{length, replicate};
 ghost use Rattle.choice.specs.Choice.{pick};
-ghost use Rattle.word.specs.Word.{InRange};
-ghost use Rattle.machine.specs.Shape.{sourceOf, targetOf, constant, register, act, go, branch, defer, call, actShape, shapeOf};
+ghost use Rattle.machine.specs.Shape.{sourceOf, register, go, branch, defer, call};
 ghost use Rattle.machine.specs.Step.{wordCount, shapeAt};
-ghost use Rattle.machine.specs.Parts.{IsPage};
+ghost use Rattle.machine.specs.Parts.{IsPage, shapeOfDelivery, shapeIs, FormFits};
 ghost use Rattle.flow.specs.Flow.{turn, turnChanges, sweep, sweepChanges};
-ghost use Rattle.facts.specs.Facts.{unknown, resultFact, withCarryFact, putFact};
 ghost use Rattle.facts.specs.Record.{recordSize, depths};
 ghost use Rattle.cells.specs.Cells.{Bounded};
 ghost use Rattle.callers.specs.Callers.{spanIs, InImage};
@@ -19,7 +17,8 @@ ghost use Rattle.transfer.specs.Passes.{pointAt, toward, gives, pageAddress, ca
 ghost use Rattle.sweeps.specs.Sweeps.{Laid, Passed};
 use callers::Values;
 use facts::Cell;
-use word::Word;
+use machine::act::Delivery;
+use machine::form::Form;
 
 // Passes facts on to an address at a depth; an address at or above N gets nothing. Says whether a cell changed, as all
 // that follow do.
@@ -56,57 +55,21 @@ fn pass_if(
     false
 }
 
-// MOVE, ADD, AND, XOR and XMIT: the source has the fact x, the target is d.
+// MOVE, ADD, AND, XOR and XMIT.
 fn pass_act(
     image: &[u8],
     table: &mut [u8],
     depth: usize,
     pc: usize,
     facts: [u16; 11],
-    op: usize,
-    x: u16,
-    d: usize,
+    a: Delivery,
 ) -> bool
-    requires { ⌜ Laid (now image) (now table) × (depth < 9) × InImage (now image) pc × Bounded facts × (x ≤ unknown) ⌝ }
-    ensures { λ r. ⌜ ((l : ℕ) → Passed (now (image .entry)) depth (now (table .entry)) (toward (wordCount (now (image .entry))) depth (pc + 1) (putFact (targetOf d l) (resultFact op (getD facts 0 unknown) x) (withCarryFact op (getD facts 0 unknown) x facts))) (now (table .exit)) r) ⌝ }
+    requires { ⌜ Laid (now image) (now table) × (depth < 9) × InImage (now image) pc × Bounded facts × (a .rl < 8) × (a .i < 256) ⌝ }
+    ensures { λ r. ⌜ Passed (now (image .entry)) depth (now (table .entry)) (wordPasses (wordCount (now (image .entry))) depth pc facts (shapeOfDelivery a)) (now (table .exit)) r ⌝ }
 {
-    let after = cells::acts::facts_after(op, x, d, facts);
+    let x = cells::acts::argument_fact(facts, a);
+    let after = cells::acts::facts_after(a.op, x, a.d, facts);
     pass(image, table, depth, pc + 1, after)
-}
-
-// MOVE, ADD, AND and XOR: the opcode, the source, R or L, the target.
-fn pass_operation(
-    image: &[u8],
-    table: &mut [u8],
-    depth: usize,
-    pc: usize,
-    facts: [u16; 11],
-    op: usize,
-    s: usize,
-    rl: usize,
-    d: usize,
-) -> bool
-    requires { ⌜ Laid (now image) (now table) × (depth < 9) × InImage (now image) pc × Bounded facts × (rl < 8) ⌝ }
-    ensures { λ r. ⌜ Passed (now (image .entry)) depth (now (table .entry)) (wordPasses (wordCount (now (image .entry))) depth pc facts (actShape op s rl d)) (now (table .exit)) r ⌝ }
-{
-    let x = cells::acts::fact_of(facts, s, machine::act::places(rl, d));
-    pass_act(image, table, depth, pc, facts, op, x, d)
-}
-
-// XMIT: the constant, the target.
-fn pass_constant(
-    image: &[u8],
-    table: &mut [u8],
-    depth: usize,
-    pc: usize,
-    facts: [u16; 11],
-    i: usize,
-    d: usize,
-) -> bool
-    requires { ⌜ Laid (now image) (now table) × (depth < 9) × InImage (now image) pc × Bounded facts × (i < 256) ⌝ }
-    ensures { λ r. ⌜ ((l : ℕ) → Passed (now (image .entry)) depth (now (table .entry)) (wordPasses (wordCount (now (image .entry))) depth pc facts (act (constant i) 0 (targetOf d l))) (now (table .exit)) r) ⌝ }
-{
-    pass_act(image, table, depth, pc, facts, 0, i as u16, d)
 }
 
 // NZT of the source s, or of its field of length l where it is a bank.
@@ -143,7 +106,7 @@ fn pass_call(
     requires { ⌜ Laid (now image) (now table) × (depth < 9) × Bounded facts × (i < 256) ⌝ }
     ensures { λ r. ⌜ Passed (now (image .entry)) depth (now (table .entry)) (wordPasses (wordCount (now (image .entry))) depth pc facts (go (register 0 0) (call i))) (now (table .exit)) r ⌝ }
 {
-    if depth == 8 {
+    if depth == state::PLACES {
         return false;
     }
     let v = callers::values_of(facts, 0, 0);
@@ -164,52 +127,31 @@ fn pass_word(
     depth: usize,
     pc: usize,
     facts: [u16; 11],
-    word: Word,
+    form: Form,
 ) -> bool
-    requires { ⌜ Laid (now image) (now table) × (depth < 9) × InImage (now image) pc × Bounded facts × InRange word ⌝ }
-    ensures { λ r. ⌜ Passed (now (image .entry)) depth (now (table .entry)) (wordPasses (wordCount (now (image .entry))) depth pc facts (shapeOf word)) (now (table .exit)) r ⌝ }
+    requires { ⌜ Laid (now image) (now table) × (depth < 9) × InImage (now image) pc × Bounded facts × FormFits form ⌝ }
+    ensures { λ r. ⌜ Passed (now (image .entry)) depth (now (table .entry)) (wordPasses (wordCount (now (image .entry))) depth pc facts (shapeIs form)) (now (table .exit)) r ⌝ }
 {
-    match word {
-        Word::Move { s, rl, d } => {
-            return pass_operation(image, table, depth, pc, facts, 0, s, rl, d);
+    match form {
+        Form::Act(a) => {
+            return pass_act(image, table, depth, pc, facts, a);
         }
-        Word::Add { s, rl, d } => {
-            return pass_operation(image, table, depth, pc, facts, 1, s, rl, d);
-        }
-        Word::And { s, rl, d } => {
-            return pass_operation(image, table, depth, pc, facts, 2, s, rl, d);
-        }
-        Word::Xor { s, rl, d } => {
-            return pass_operation(image, table, depth, pc, facts, 3, s, rl, d);
-        }
-        Word::XecRegister { s, i } => {
-            return false;
-        }
-        Word::XecBank { s, l, i } => {
-            return false;
-        }
-        Word::NztRegister { s, i } => {
-            return pass_branch(image, table, depth, pc, facts, s, 0, 256, i);
-        }
-        Word::NztBank { s, l, i } => {
-            return pass_branch(image, table, depth, pc, facts, s, l, 32, i);
-        }
-        Word::Call { i } => {
-            return pass_call(image, table, depth, pc, facts, i);
-        }
-        Word::Ret => {
-            return false;
-        }
-        Word::XmitRegister { d, i } => {
-            return pass_constant(image, table, depth, pc, facts, i, d);
-        }
-        Word::XmitBank { d, l, i } => {
-            return pass_constant(image, table, depth, pc, facts, i, d);
-        }
-        Word::Jmp { a } => {
+        Form::Jump { a } => {
             return pass(image, table, depth, a, facts);
         }
-        Word::Invalid => {
+        Form::Branch { s, l, page, i } => {
+            return pass_branch(image, table, depth, pc, facts, s, l, page, i);
+        }
+        Form::Defer { s, l, page, i } => {
+            return false;
+        }
+        Form::Call { i } => {
+            return pass_call(image, table, depth, pc, facts, i);
+        }
+        Form::Return => {
+            return false;
+        }
+        Form::Invalid => {
             return false;
         }
     }
@@ -237,8 +179,8 @@ fn pass_place(
     if image.len() / 2 <= a {
         return false;
     }
-    let word = machine::word_at(image, a);
-    pass_word(image, table, depth, pc, facts, word)
+    let form = machine::form_at(image, a);
+    pass_word(image, table, depth, pc, facts, form)
 }
 
 // What the words that an XEC at pc may execute pass on.
@@ -274,18 +216,15 @@ fn pass_words(
     depth: usize,
     pc: usize,
     facts: [u16; 11],
-    word: Word,
+    form: Form,
 ) -> bool
-    requires { ⌜ Laid (now image) (now table) × (depth < 9) × InImage (now image) pc × Bounded facts × InRange word ⌝ }
-    ensures { λ r. ⌜ Passed (now (image .entry)) depth (now (table .entry)) (allPasses (wordCount (now (image .entry))) depth pc facts (wordsAt (now (image .entry)) pc facts (shapeOf word))) (now (table .exit)) r ⌝ }
+    requires { ⌜ Laid (now image) (now table) × (depth < 9) × InImage (now image) pc × Bounded facts × FormFits form ⌝ }
+    ensures { λ r. ⌜ Passed (now (image .entry)) depth (now (table .entry)) (allPasses (wordCount (now (image .entry))) depth pc facts (wordsAt (now (image .entry)) pc facts (shapeIs form))) (now (table .exit)) r ⌝ }
 {
-    if let Word::XecRegister { s, i } = word {
-        return pass_executed(image, table, depth, pc, facts, s, 0, 256, i);
+    if let Form::Defer { s, l, page, i } = form {
+        return pass_executed(image, table, depth, pc, facts, s, l, page, i);
     }
-    if let Word::XecBank { s, l, i } = word {
-        return pass_executed(image, table, depth, pc, facts, s, l, 32, i);
-    }
-    pass_word(image, table, depth, pc, facts, word)
+    pass_word(image, table, depth, pc, facts, form)
 }
 
 // RET back to a depth: to the address after every call site there, from the last on, so that a cell that changes is
@@ -312,15 +251,15 @@ fn pass_returns(
     depth: usize,
     pc: usize,
     facts: [u16; 11],
-    word: Word,
+    form: Form,
 ) -> bool
-    requires { ⌜ Laid (now image) (now table) × (depth < 9) × InImage (now image) pc × Bounded facts × InRange word ⌝ }
-    ensures { λ r. ⌜ Passed (now (image .entry)) (depth - 1) (now (table .entry)) (pick (ltb 0 depth && some isReturn (wordsAt (now (image .entry)) pc facts (shapeOf word))) (returnPasses (now (image .entry)) (now (table .entry)) (depth - 1) facts) []) (now (table .exit)) r ⌝ }
+    requires { ⌜ Laid (now image) (now table) × (depth < 9) × InImage (now image) pc × Bounded facts × FormFits form ⌝ }
+    ensures { λ r. ⌜ Passed (now (image .entry)) (depth - 1) (now (table .entry)) (pick (ltb 0 depth && some isReturn (wordsAt (now (image .entry)) pc facts (shapeIs form))) (returnPasses (now (image .entry)) (now (table .entry)) (depth - 1) facts) []) (now (table .exit)) r ⌝ }
 {
     if depth == 0 {
         return false;
     }
-    if !callers::performs(image, pc, facts, word, true) {
+    if !callers::performs(image, pc, facts, form, true) {
         return false;
     }
     pass_back(image, table, depth - 1, facts)
@@ -337,9 +276,9 @@ fn turn(image: &[u8], table: &mut [u8], depth: usize, pc: usize) -> bool
     }
     let c = cells::load(table, i);
     let facts = c.facts;
-    let word = machine::word_at(image, pc);
-    let on = pass_words(image, table, depth, pc, facts, word);
-    let back = pass_returns(image, table, depth, pc, facts, word);
+    let form = machine::form_at(image, pc);
+    let on = pass_words(image, table, depth, pc, facts, form);
+    let back = pass_returns(image, table, depth, pc, facts, form);
     on | back
 }
 
@@ -352,7 +291,7 @@ fn sweep(image: &[u8], table: &mut [u8]) -> bool
     let mut changed = false;
     let mut depth = 0;
     let mut pc = 0;
-    while depth < 9 {
+    while depth < facts::DEPTHS {
         let r = turn(image, table, depth, pc);
         changed = changed | r;
         pc += 1;

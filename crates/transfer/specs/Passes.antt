@@ -33,33 +33,24 @@ pointAt words depth a = depth * words + a
 abbrev pub toward : ℕ → ℕ → ℕ → List ℕ → List (Pass Cell)
 toward words depth a facts = pick (ltb a words) (record { target = pointAt words depth a; cell = cellOf true facts } ∷ []) []
 
--- a word that is XEC; that is CALL; that is RET
+-- one of three answers where a word is XEC, CALL or RET, and no where it is any other
+abbrev pub directing : Bool → Bool → Bool → Shape → Bool
+directing xec called ret (act source op target) = false
+directing xec called ret (go source (jump a)) = false
+directing xec called ret (go source (branch page i)) = false
+directing xec called ret (go source (defer page i)) = xec
+directing xec called ret (go source (call i)) = called
+directing xec called ret (go source return) = ret
+directing xec called ret invalid = false
+
 abbrev pub isDefer : Shape → Bool
-isDefer (act source op target) = false
-isDefer (go source (jump a)) = false
-isDefer (go source (branch page i)) = false
-isDefer (go source (defer page i)) = true
-isDefer (go source (call i)) = false
-isDefer (go source return) = false
-isDefer invalid = false
+isDefer = directing true false false
 
 abbrev pub isCall : Shape → Bool
-isCall (act source op target) = false
-isCall (go source (jump a)) = false
-isCall (go source (branch page i)) = false
-isCall (go source (defer page i)) = false
-isCall (go source (call i)) = true
-isCall (go source return) = false
-isCall invalid = false
+isCall = directing false true false
 
 abbrev pub isReturn : Shape → Bool
-isReturn (act source op target) = false
-isReturn (go source (jump a)) = false
-isReturn (go source (branch page i)) = false
-isReturn (go source (defer page i)) = false
-isReturn (go source (call i)) = false
-isReturn (go source return) = true
-isReturn invalid = false
+isReturn = directing false false true
 
 -- the address at place k of the page of PC
 abbrev pub pageAddress : ℕ → ℕ → ℕ → ℕ

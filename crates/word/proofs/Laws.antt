@@ -4,7 +4,7 @@ use mathlib.Core.Bool.{Bool, true, false, _&&_, _||_, or-comm}
 use mathlib.Core.List.{[], _∷_}
 use mathlib.Core.Logic.{_↔_}
 use mathlib.Core.Path.{_≡_, refl, ap, sym, _∙_, subst}
-use Prim.Native.Nat.{ℕ, _+_, _*_, _<_, _≤_}
+use Prim.Native.Nat.{ℕ, _+_, _*_, _/_, _%_, _<_, _≤_}
 use native.Mathlib.Omega.{arith}
 use lib.Dec.{leb, ltb, eqb}
 use borrow.Author.Tests.{leb-true, ltb-true, ltb-false, eqb-true, eqb-false, lt-ltb, le-ltb, lt-leb}
@@ -16,7 +16,7 @@ use Rattle.word.specs.declared.Encoding.{Encoding}
 use Rattle.word.specs.declared.Encoding.the-variants.{Bits}
 use Rattle.word.specs.Word.{isBank, isRegisterSource, isRegisterTarget, isSource, isTarget, isXecLength}
 use Rattle.word.specs.Word.{opcodeOf, bits3to7, bits8to10, bits11to15, bits8to15, bits3to15}
-use Rattle.word.specs.Word.{actOf, xecRead, nztRead, xmitRead, decoded, isValid, fieldsOf, reading}
+use Rattle.word.specs.Word.{actOf, actRead, xecRead, nztRead, xmitRead, decoded, isValid, fieldsOf, reading}
 use Rattle.word.specs.Word.{wordOf, lowOf, bitsIf, actBits, registerBits, bankBits, encoded, writtenOf, writing}
 use Rattle.word.specs.Word.{ActInRange, RegisterInRange, BankInRange, InRange}
 
@@ -47,6 +47,23 @@ target-fits d h = or-cases (isRegisterTarget d) (isBank d) h (λ r. omega (arith
 
 pub xec-length-range : (l : ℕ) → isXecLength l ≡ true → (1 ≤ l) × (l < 6)
 xec-length-range l h = (leb-true 1 l (and-first _ (ltb l 6) h), ltb-true l 6 (and-second (leb 1 l) _ h))
+
+-- A word from its opcode, bits 3-7 and its low byte, read field by field.
+pub low-decoded : (op s low : ℕ) → s < 32 → low < 256
+    → decoded (wordOf op s low)
+    ≡ pick (ltb op 4) (actRead op s (low / 32) (low % 32))
+    (pick (eqb op 4) (xecRead s (low / 32) (low % 32) low)
+    (pick (eqb op 5) (nztRead s (low / 32) (low % 32) low)
+    (pick (eqb op 6) (xmitRead s (low / 32) (low % 32) low) (Jmp (wordOf 0 s low)))))
+unfolding decoded
+low-decoded op s low hs hl =
+    let o : opcodeOf (wordOf op s low) ≡ op = omega arith in
+    let p : bits3to7 (wordOf op s low) ≡ s = omega arith in
+    let l : bits8to10 (wordOf op s low) ≡ low / 32 = omega arith in
+    let x : bits11to15 (wordOf op s low) ≡ low % 32 = omega arith in
+    let i : bits8to15 (wordOf op s low) ≡ low = omega arith in
+    let a : bits3to15 (wordOf op s low) ≡ wordOf 0 s low = omega arith in
+    simp (o, p, l, x, i, a)
 
 -- What holds where the word w is read as x and is listed or not.
 record Reads (w : ℕ) (x : Word) (v : Bool) : Type 0 where

@@ -5,7 +5,7 @@ ghost use mathlib.Core.Path.{_≡_};
 ghost use Rattle.word.specs.Word.{isBank, isRegisterSource, isRegisterTarget, isSource, isTarget};
 ghost use Rattle.word.specs.Word.{actOf, actRead, xecRead, nztRead, xmitRead, decoded, fieldsOf, reading};
 ghost use Rattle.word.specs.Word.{lowOf, wordOf, actBits, registerBits, bankBits, jmpBits, encoded, writing, writtenOf};
-ghost use Prim.Native.Nat.{_<_};
+ghost use Prim.Native.Nat.{_<_, _+_, _*_};
 
 pub enum Word {
     Move { s: usize, rl: usize, d: usize },
@@ -24,6 +24,9 @@ pub enum Word {
     Invalid,
 }
 
+// The first number of a bank, 20 octal; the numbers below it are registers and bus addresses.
+pub const FIRST_BANK: usize = 16;
+
 // What encoding answers: the word's 16 bits, or the refusal 22.
 pub enum Encoding {
     Bits(u16),
@@ -34,7 +37,7 @@ pub enum Encoding {
 pub fn is_bank(r: usize) -> bool
     ensures { λ b. ⌜ b ≡ isBank r ⌝ }
 {
-    (16 <= r) & (r < 32)
+    (FIRST_BANK <= r) & (r < 32)
 }
 
 // A register that can be read: 00-06, 10, 11 octal.
@@ -55,14 +58,14 @@ pub fn is_register_target(r: usize) -> bool
 pub fn is_source(r: usize) -> bool
     ensures { λ b. ⌜ b ≡ isSource r ⌝ }
 {
-    (r < 7) | (r == 8) | (r == 9) | ((16 <= r) & (r < 32))
+    (r < 7) | (r == 8) | (r == 9) | ((FIRST_BANK <= r) & (r < 32))
 }
 
 // What D can be: a register or bus address that can be written, or a bank.
 pub fn is_target(r: usize) -> bool
     ensures { λ b. ⌜ b ≡ isTarget r ⌝ }
 {
-    (r < 8) | (r == 9) | (r == 15) | ((16 <= r) & (r < 32))
+    (r < 8) | (r == 9) | (r == 15) | ((FIRST_BANK <= r) & (r < 32))
 }
 
 // Opcodes 0-3, each with its own case.
@@ -84,8 +87,10 @@ fn act(op: usize, s: usize, rl: usize, d: usize) -> Word
 fn decode_act(op: usize, s: usize, rl: usize, d: usize) -> Word
     ensures { λ r. ⌜ r ≡ actRead op s rl d ⌝ }
 {
-    if is_source(s) & is_target(d) {
-        return act(op, s, rl, d);
+    if is_source(s) {
+        if is_target(d) {
+            return act(op, s, rl, d);
+        }
     }
     Word::Invalid
 }
@@ -136,29 +141,50 @@ fn decode_xmit(d: usize, l: usize, short: usize, i: usize) -> Word
     Word::Invalid
 }
 
+// Opcodes 0-6, from the opcode, bits 3-7 and the low byte.
+fn decode_low(op: usize, s: usize, low: usize) -> Word
+    requires { ⌜ (op < 7) × (s < 32) × (low < 256) ⌝ }
+    ensures { λ r. ⌜ r ≡ decoded (wordOf op s low) ⌝ }
+{
+    let l = low / 32;
+    let short = low % 32;
+    if op < 4 {
+        return decode_act(op, s, l, short);
+    }
+    if op == 4 {
+        return decode_xec(s, l, short, low);
+    }
+    if op == 5 {
+        return decode_nzt(s, l, short, low);
+    }
+    decode_xmit(s, l, short, low)
+}
+
+fn wide(x: u8) -> usize
+    ensures { λ r. ⌜ (r ≡ x) × (r < 256) ⌝ }
+{
+    x as usize
+}
+
+// Reads a word from its two bytes.
+pub fn decode_bytes(high: u8, low: u8) -> Word
+    ensures { λ r. ⌜ r ≡ decoded (high * 256 + low) ⌝ }
+{
+    let h = wide(high);
+    let l = wide(low);
+    let op = h / 32;
+    let s = h % 32;
+    if op == 7 {
+        return Word::Jmp { a: s * 256 + l };
+    }
+    decode_low(op, s, l)
+}
+
 // Reads a word: the case and its fields, or Invalid where the word is not listed.
 pub fn decode(word: u16) -> Word
     ensures { λ r. ⌜ (r ≡ decoded word) × (fieldsOf r ≡ reading word) ⌝ }
 {
-    let w = word as usize;
-    let op = w / 8192;
-    let s = w / 256 % 32;
-    let l = w / 32 % 8;
-    let short = w % 32;
-    if op < 4 {
-        return decode_act(op, s, l, short);
-    }
-    let i = w % 256;
-    if op == 4 {
-        return decode_xec(s, l, short, i);
-    }
-    if op == 5 {
-        return decode_nzt(s, l, short, i);
-    }
-    if op == 6 {
-        return decode_xmit(s, l, short, i);
-    }
-    Word::Jmp { a: w % 8192 }
+    decode_bytes((word / 256) as u8, (word % 256) as u8)
 }
 
 // The low byte of a length and a constant beside it.

@@ -31,12 +31,12 @@ returns c =
 performs-requires : tie.Need-performs-requires
 performs-requires c κs =
     let start = c .before .before .before .before .before .before .before in
-    (record { words = start .pre .0 .words; inside = start .pre .2 }, site-bounded (now (start .args .image)) (now (start .args .table)) (start .args .depth) (start .args .a) (start .pre .0) (start .pre .1) (start .pre .2) (c .before .before .before .before .load .ensures), c .word-at .ensures .1)
+    (record { words = start .pre .0 .words; inside = start .pre .2 }, site-bounded (now (start .args .image)) (now (start .args .table)) (start .args .depth) (start .args .a) (start .pre .0) (start .pre .1) (start .pre .2) (c .before .before .before .before .load .ensures), c .form-at .ensures .1)
 
 returns-2 : tie.Need-returns-2
 returns-2 c =
     let start = c .before .before .before .before .before .before .before .before in
-    site (now (start .args .image)) (now (start .args .table)) (start .args .depth) (start .args .a) (c .before .before .before .before .before .load .ensures) (c .before .before .before .if1 .left) (c .before .word-at .ensures .0) (c .performs .ensures)
+    site (now (start .args .image)) (now (start .args .table)) (start .args .depth) (start .args .a) (c .before .before .before .before .before .load .ensures) (c .before .before .before .if1 .left) (c .before .form-at .ensures .0) (c .performs .ensures)
 
 pub is-call-site-spec : {M : Type 1} → statement M
 is-call-site-spec =

@@ -18,7 +18,7 @@ returns-2 c =
 returns-3 : tie.Need-returns-3
 returns-3 c =
     let start = c .before .before .before .before .before .before .before in
-    is-executed (now (start .args .image)) (start .args .pc) (start .args .page) (start .args .i) (start .args .v) (start .args .k) (start .args .returns) (start .pre .4) (c .before .before .before .before .before .gives .result) (c .before .before .before .before .before .gives .ensures) (c .before .before .before .before .if1 .left) (c .before .before .before .in-page .ensures) (c .before .before .if2 .left) (c .before .word-at .ensures .0) (c .is-asked .ensures)
+    is-executed (now (start .args .image)) (start .args .pc) (start .args .page) (start .args .i) (start .args .v) (start .args .k) (start .args .returns) (start .pre .4) (c .before .before .before .before .before .gives .result) (c .before .before .before .before .before .gives .ensures) (c .before .before .before .before .if1 .left) (c .before .before .before .in-page .ensures) (c .before .before .if2 .left) (c .before .form-at .ensures .0) (c .is-asked .ensures)
 
 pub performs-at-spec : {M : Type 1} → statement M
 performs-at-spec =

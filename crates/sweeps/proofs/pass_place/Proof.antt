@@ -23,7 +23,7 @@ returns-3 c =
     let start = c .before .before .before .before .before .before .before .before .before .before .before in
     let a = start .args in
     executed (now (a .image)) (a .depth) (a .pc) (a .facts) (a .page) (a .i) (spanIs (a .v)) (a .k) (c .before .before .before .before .before .before .before .before .gives .result) (start .pre .7)
-    (c .before .before .before .before .before .before .before .before .gives .ensures) (c .before .before .before .before .before .before .before .if1 .left) (c .before .before .before .before .before .before .in-page .ensures) (c .before .before .before .before .before .if2 .left) (c .before .before .before .before .word-at .ensures .0) (c .before .before .pass-word .ensures)
+    (c .before .before .before .before .before .before .before .before .gives .ensures) (c .before .before .before .before .before .before .before .if1 .left) (c .before .before .before .before .before .before .in-page .ensures) (c .before .before .before .before .before .if2 .left) (c .before .before .before .before .form-at .ensures .0) (c .before .before .pass-word .ensures)
 
 pub pass-place-spec : {M : Type 1} → statement M
 pass-place-spec =

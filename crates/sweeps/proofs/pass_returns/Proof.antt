@@ -1,7 +1,7 @@
 -- `sweeps::pass_returns` meets its contract. Assumes nothing.
 use denote.Ref.{now}
 use borrow.Author.Needs.{needs}
-use Rattle.machine.specs.Shape.{shapeOf}
+use Rattle.machine.specs.Parts.{shapeIs}
 use Rattle.transfer.specs.Passes.{isReturn, some, wordsAt}
 use Rattle.sweeps.proofs.Returning.{back-at-zero, back-without, back-passed}
 use Rattle.sweeps.proofs.pass_returns.Statement.{statement}
@@ -11,18 +11,18 @@ returns : tie.Need-returns
 returns c =
     let start = c .before .before .before in
     let a = start .args in
-    back-at-zero (now (a .image)) (now (a .table)) (a .depth) (a .facts) (some isReturn (wordsAt (now (a .image)) (a .pc) (a .facts) (shapeOf (a .word)))) (c .if1 .taken) (start .pre .0 .layout)
+    back-at-zero (now (a .image)) (now (a .table)) (a .depth) (a .facts) (some isReturn (wordsAt (now (a .image)) (a .pc) (a .facts) (shapeIs (a .form)))) (c .if1 .taken) (start .pre .0 .layout)
 
 returns-2 : tie.Need-returns-2
 returns-2 c =
     let start = c .before .before .before .before .before in
     let a = start .args in
-    back-without (now (a .image)) (now (a .table)) (a .depth) (a .facts) (some isReturn (wordsAt (now (a .image)) (a .pc) (a .facts) (shapeOf (a .word)))) (c .before .performs .ensures) (c .if2 .taken) (start .pre .0 .layout)
+    back-without (now (a .image)) (now (a .table)) (a .depth) (a .facts) (some isReturn (wordsAt (now (a .image)) (a .pc) (a .facts) (shapeIs (a .form)))) (c .before .performs .ensures) (c .if2 .taken) (start .pre .0 .layout)
 
 returns-3 : tie.Need-returns-3
 returns-3 c =
     let a = c .before .before .before .before .before .before .before .before .before .args in
-    back-passed (now (a .image)) (now (a .table)) (a .depth) (a .facts) (some isReturn (wordsAt (now (a .image)) (a .pc) (a .facts) (shapeOf (a .word)))) (c .before .before .before .before .before .before .if1 .left) (c .before .before .before .before .before .performs .ensures) (c .before .before .before .before .if2 .left) (c .before .before .pass-back .ensures)
+    back-passed (now (a .image)) (now (a .table)) (a .depth) (a .facts) (some isReturn (wordsAt (now (a .image)) (a .pc) (a .facts) (shapeIs (a .form)))) (c .before .before .before .before .before .before .if1 .left) (c .before .before .before .before .before .performs .ensures) (c .before .before .before .before .if2 .left) (c .before .before .pass-back .ensures)
 
 pub pass-returns-spec : {M : Type 1} → statement M
 pass-returns-spec =

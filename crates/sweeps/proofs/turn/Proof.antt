@@ -41,20 +41,20 @@ pass-words-requires : tie.Need-pass-words-requires
 pass-words-requires c κs =
     let start = c .before .before .before .before .before .before .before .before .before .before in
     let a = start .args in
-    (start .pre .0, start .pre .1, start .pre .2, site-bounded (now (a .image)) (now (a .table)) (a .depth) (a .pc) (held (now (a .image)) (now (a .table)) (start .pre .0 .words) (start .pre .0 .layout)) (start .pre .1) (start .pre .2 .inside) (c .before .before .before .load .ensures), c .before .word-at .ensures .1)
+    (start .pre .0, start .pre .1, start .pre .2, site-bounded (now (a .image)) (now (a .table)) (a .depth) (a .pc) (held (now (a .image)) (now (a .table)) (start .pre .0 .words) (start .pre .0 .layout)) (start .pre .1) (start .pre .2 .inside) (c .before .before .before .load .ensures), c .before .form-at .ensures .1)
 
 pass-returns-requires : tie.Need-pass-returns-requires
 pass-returns-requires c κs =
     let start = c .before .before .before .before .before .before .before .before .before .before .before .before .before .before in
     let a = start .args in
-    (record { words = start .pre .0 .words; layout = c .before .before .before .pass-words .ensures .laid }, start .pre .1, start .pre .2, site-bounded (now (a .image)) (now (a .table)) (a .depth) (a .pc) (held (now (a .image)) (now (a .table)) (start .pre .0 .words) (start .pre .0 .layout)) (start .pre .1) (start .pre .2 .inside) (c .before .before .before .before .before .before .before .load .ensures), c .before .before .before .before .before .word-at .ensures .1)
+    (record { words = start .pre .0 .words; layout = c .before .before .before .pass-words .ensures .laid }, start .pre .1, start .pre .2, site-bounded (now (a .image)) (now (a .table)) (a .depth) (a .pc) (held (now (a .image)) (now (a .table)) (start .pre .0 .words) (start .pre .0 .layout)) (start .pre .1) (start .pre .2 .inside) (c .before .before .before .before .before .before .before .load .ensures), c .before .before .before .before .before .form-at .ensures .1)
 
 returns-2 : tie.Need-returns-2
 returns-2 c =
     let start = c .before .before .before .before .before .before .before .before .before .before .before .before .before .before .before .before .before in
     let a = start .args in
     turn-done (now (a .image)) (now (a .table)) (a .depth) (a .pc) (start .pre .2 .inside) (start .pre .0 .words) (c .before .before .before .before .before .before .before .before .before .before .before .before .before .reached .ensures) (c .before .before .before .before .before .before .before .before .before .before .load .ensures) (c .before .before .before .before .before .before .before .before .before .before .before .before .if1 .left)
-    (c .before .before .before .before .before .before .before .before .word-at .ensures .0) (c .before .before .before .before .before .before .pass-words .ensures) (c .before .before .pass-returns .ensures)
+    (c .before .before .before .before .before .before .before .before .form-at .ensures .0) (c .before .before .before .before .before .before .pass-words .ensures) (c .before .before .pass-returns .ensures)
 
 pub turn-spec : {M : Type 1} → statement M
 turn-spec =

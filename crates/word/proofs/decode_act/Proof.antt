@@ -1,4 +1,5 @@
--- Each return: the test of both lists.
+-- Each return: the tests of the two lists that led there.
+use mathlib.Core.Bool.{and-false}
 use borrow.Author.Needs.{needs}
 use Rattle.word.proofs.decode_act.Statement.{statement}
 use Rattle.word.proofs.decode_act.Tie as tie
@@ -12,5 +13,9 @@ decode-act-spec =
     (λ c κs. search needs)
     (λ c.
     let d = c .before in
-    simp (← d .before .before .is-source .ensures, ← d .before .is-target .ensures, d .if1 .taken) (c .act .ensures))
-    (λ c. simp (← c .before .before .is-source .ensures, ← c .before .is-target .ensures, c .if1 .left)))
+    let e = d .before .before in
+    simp (← e .before .is-source .ensures, e .if1 .taken, ← d .before .is-target .ensures, d .if2 .taken) (c .act .ensures))
+    (λ c.
+    let e = c .before .before in
+    simp (← e .before .is-source .ensures, e .if1 .taken, ← c .before .is-target .ensures, c .if2 .left))
+    (λ c. simp (← c .before .is-source .ensures, c .if1 .left)))

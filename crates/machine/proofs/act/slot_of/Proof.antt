@@ -25,4 +25,4 @@ unfolding slotOf
 returns-5 c = (simp (le-ltb _ _ (c .before .before .before .if1 .left), ne-eqb _ _ (c .before .before .if2 .left), ne-eqb _ _ (c .before .if3 .left), ne-eqb _ _ (c .if4 .left)), omega arith)
 
 pub slot-of-spec : {M : Type 1} → statement M
-slot-of-spec = tie.close (tie.spec returns returns-2 returns-3 returns-4 returns-5)
+slot-of-spec = tie.close (tie.spec returns returns-2 returns-3 returns-4 (λ c. omega arith) returns-5)

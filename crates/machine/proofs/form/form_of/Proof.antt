@@ -1,0 +1,49 @@
+-- `machine::form::form_of` meets its contract: each kind of word has the shape that its form stands for. Assumes nothing.
+use mathlib.Core.Path.{refl}
+use native.Mathlib.Omega.{arith}
+use Rattle.machine.specs.declared.form.Form.the-variants.{Jump, Branch, Defer, Call, Return, Invalid}
+use Rattle.machine.specs.Shape.{shapeOf}
+use Rattle.machine.proofs.Forming.{formed}
+use borrow.Author.Needs.{needs}
+use Rattle.machine.proofs.form.form_of.Statement.{statement}
+use Rattle.machine.proofs.form.form_of.Tie as tie
+
+pub form-of-spec : {M : Type 1} → statement M
+unfolding shapeOf
+form-of-spec =
+    tie.close
+    (tie.spec
+    (λ c. search needs)
+    (λ c κs. search needs)
+    (λ c. formed (c .before .before .word .given .1) (c .operation .ensures) (c .before .before .before .before .pre) (λ h. (refl, (h .1, omega arith))))
+    (λ c. search needs)
+    (λ c κs. search needs)
+    (λ c. formed (c .before .before .word2 .given .1) (c .operation2 .ensures) (c .before .before .before .before .pre) (λ h. (refl, (h .1, omega arith))))
+    (λ c. search needs)
+    (λ c κs. search needs)
+    (λ c. formed (c .before .before .word3 .given .1) (c .operation3 .ensures) (c .before .before .before .before .pre) (λ h. (refl, (h .1, omega arith))))
+    (λ c. search needs)
+    (λ c κs. search needs)
+    (λ c. formed (c .before .before .word4 .given .1) (c .operation4 .ensures) (c .before .before .before .before .pre) (λ h. (refl, (h .1, omega arith))))
+    (λ c. search needs)
+    (λ c. formed {r = Defer (c .before .word5 .given .0 .0) 0 256 _} (c .before .word5 .given .1) refl (c .before .before .before .pre) (λ h. (refl, (omega arith, λ n. absurd (n refl), h .2))))
+    (λ c. search needs)
+    (λ c. formed {r = Defer (c .before .word6 .given .0 .0) _ 32 _} (c .before .word6 .given .1) refl (c .before .before .before .pre) (λ h. (refl, (h .0 .2, λ n. refl, let i = h .0 .3 in omega arith))))
+    (λ c. search needs)
+    (λ c. formed {r = Branch (c .before .word7 .given .0 .0) 0 256 _} (c .before .word7 .given .1) refl (c .before .before .before .pre) (λ h. (refl, (omega arith, λ n. absurd (n refl)))))
+    (λ c. search needs)
+    (λ c. formed {r = Branch (c .before .word8 .given .0 .0) _ 32 _} (c .before .word8 .given .1) refl (c .before .before .before .pre) (λ h. (refl, (h .2, λ n. refl))))
+    (λ c. search needs)
+    (λ c. formed {r = Call _} (c .before .word9 .given .1) refl (c .before .before .before .pre) (λ h. (refl, h)))
+    (λ c. search needs)
+    (λ c. formed {r = Return} (c .enum-told .given .1) refl (c .before .before .pre) (λ h. (refl, tt)))
+    (λ c. search needs)
+    (λ c κs. search needs)
+    (λ c. formed (c .before .before .word10 .given .1) (c .transmission .ensures) (c .before .before .before .before .pre) (λ h. (refl, (omega arith, h .2))))
+    (λ c. search needs)
+    (λ c κs. search needs)
+    (λ c. formed (c .before .before .word11 .given .1) (c .transmission2 .ensures) (c .before .before .before .before .pre) (λ h. (refl, (h .2, let i = h .3 in omega arith))))
+    (λ c. search needs)
+    (λ c. formed {r = Jump _} (c .before .word12 .given .1) refl (c .before .before .before .pre) (λ h. (refl, tt)))
+    (λ c. search needs)
+    (λ c. formed {r = Invalid} (c .enum-told2 .given .1) refl (c .before .before .pre) (λ h. (refl, tt))))
