@@ -5,14 +5,13 @@ use mathlib.Core.List.{List, [], _∷_, _++_}
 use Prim.Native.Nat.{ℕ, suc, _+_, _-_, _*_, _/_, _%_, _^_, _≤_, _<_}
 use native.Mathlib.Nat.{mod-eq-of-lt}
 use native.Mathlib.Omega.{arith}
-use lib.Dec.{ltb, eqb}
+use lib.Dec.{ltb}
 use lib.Pow.{pow-mono}
-use borrow.Author.Tests.{lt-leb, le-leb, lt-ltb, le-ltb, eqb-true, eqb-false, eq-eqb, ne-eqb}
+use borrow.Author.Tests.{lt-leb, le-leb, lt-ltb, le-ltb, eq-eqb, ne-eqb}
 use Rattle.choice.specs.Choice.{pick}
 use Rattle.field.specs.Field.{widthOf}
 use Rattle.machine.specs.Shape.{Source, register, slotOf, sourceOf, defer, Shape, go}
 use Rattle.machine.specs.Step.{wordCount, shapeAt, inPage}
-use Rattle.machine.specs.Parts.{IsPage}
 use Rattle.facts.specs.Facts.{unknown, sourceFact, Span, spanOf}
 use Rattle.transfer.specs.Passes.{over, gives, pageAddress, canBeExecuted, isCall, isReturn, some, wordsAt}
 use Rattle.callers.specs.declared.Values.{Values}
@@ -51,14 +50,6 @@ field-values facts s l h n short =
     (ap (λ x. record { low = 0; count = x }) (same ∙ sym width) ∙ bank-values facts s l h, rw same (omega arith))
 
 -- ---- places of a page
-
--- a page has 256 or 32 addresses
-pub page-most : (page : ℕ) → IsPage page → page ≤ 256
-page-most page p = go (eqb page 256) refl
-  where
-    go : (b : Bool) → eqb page 256 ≡ b → page ≤ 256
-    go true e = omega (arith, eqb-true page 256 e)
-    go false e = omega (arith, p (eqb-false page 256 e))
 
 pub gives-told : (page i : ℕ) (v : Values) (k : ℕ) {m n : ℕ} → m ≡ (i + v .low) % page → n ≡ (k + (page - m)) % page
     → ltb n (v .count) ≡ gives page i (spanIs v) k

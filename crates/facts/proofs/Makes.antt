@@ -17,14 +17,9 @@ use Rattle.field.proofs.Laws.{rotate-lt, sum-lt, and-byte, xor-byte}
 use Rattle.state.specs.State.{overflowSlot}
 use Rattle.machine.specs.Shape.{Source, register, bank, constant, Target, slot, latch}
 use Rattle.machine.specs.Step.{resultOf}
+use Rattle.machine.proofs.InRange.{SourceInRange, mostValues}
 use Rattle.facts.specs.Facts.{factCount, unknown, isKnown, knowsNoMore, allKnowNoMore, sourceFact, resultFact, carryFact, withCarryFact, factsAfter, Span, factSpan, spanOf}
 use Rattle.facts.proofs.Order.{no-more-unknown, no-more-same, no-more-cases, all-at, all-from}
-
--- a register is rotated by less than 8 places, a length is below 8, a constant is a byte
-abbrev pub SourceFits : Source → Type 0
-SourceFits (register k places) = places < 8
-SourceFits (bank b p l) = l < 8
-SourceFits (constant x) = x < 256
 
 -- eleven facts, each a value or unknown
 pub record FineFacts (facts : List ℕ) : Type 0 where
@@ -115,10 +110,10 @@ after-no-more source op (latch b p l) gs fs same h = carried source op (latch b 
 
 -- ---- the layout
 
-pub source-bound : (source : Source) (fs : List ℕ) → SourceFits source → FineFacts fs → sourceFact source fs ≤ unknown
+pub source-bound : (source : Source) (fs : List ℕ) → SourceInRange source → FineFacts fs → sourceFact source fs ≤ unknown
 source-bound (register k places) fs fits fine =
     pick-cases (λ (x : ℕ). x ≤ unknown) (isKnown (getD fs k unknown))
-    (λ e. let low = rotate-lt places fits (known-low (getD fs k unknown) (fine .bounded k) e) in omega arith)
+    (λ e. let low = rotate-lt places (fits .1) (known-low (getD fs k unknown) (fine .bounded k) e) in omega arith)
     (λ e. omega arith)
 source-bound (bank b p l) fs fits fine = omega arith
 source-bound (constant x) fs fits fine = omega arith
@@ -160,7 +155,7 @@ unfolding withCarryFact
 carry-fine op a x fs fine hx ha =
     pick-cases FineFacts (eqb op 1) (λ e. set-fine fs overflowSlot (carryFact a x) fine (carry-bound a x hx ha)) (λ e. fine)
 
-pub after-fine : (source : Source) (op : ℕ) (target : Target) (fs : List ℕ) → SourceFits source → FineFacts fs → FineFacts (factsAfter source op target fs)
+pub after-fine : (source : Source) (op : ℕ) (target : Target) (fs : List ℕ) → SourceInRange source → FineFacts fs → FineFacts (factsAfter source op target fs)
 after-fine source op (slot k) fs fits fine =
     let x = source-bound source fs fits fine in
     set-fine (withCarryFact op (getD fs 0 unknown) (sourceFact source fs) fs) k (resultFact op (getD fs 0 unknown) (sourceFact source fs))
@@ -183,11 +178,17 @@ span-cases (register k places) gs fs h p q =
 span-cases (bank b p l) gs fs h same whole = same refl
 span-cases (constant x) gs fs h same whole = same refl
 
+pub span-count : (source : Source) (fs : List ℕ) → spanOf source fs .count ≤ mostValues source
+span-count (register k places) fs =
+    pick-cases (λ (span : Span). span .count ≤ 256) (isKnown (sourceFact (register k places) fs)) (λ e. omega arith) (λ e. omega arith)
+span-count (bank b p l) fs = omega arith
+span-count (constant x) fs = omega arith
+
 bank-span : (l : ℕ) → l < 8 → 2 ^ widthOf l ≤ 256
 bank-span l h = pick-cases (λ (w : ℕ). 2 ^ w ≤ 256) (eqb l 0) (λ e. omega arith) (λ e. pow-mono {j = 8} (omega arith))
 
 -- a known source's value is a byte, and an unknown one has 256
-pub span-bytes : (source : Source) (fs : List ℕ) → SourceFits source → FineFacts fs → (v : ℕ) → v < spanOf source fs .low + spanOf source fs .count → v < 256
+pub span-bytes : (source : Source) (fs : List ℕ) → SourceInRange source → FineFacts fs → (v : ℕ) → v < spanOf source fs .low + spanOf source fs .count → v < 256
 span-bytes (register k places) fs fits fine v h =
     let f = sourceFact (register k places) fs in
     span-low f (source-bound (register k places) fs fits fine) v h
@@ -198,5 +199,5 @@ span-bytes (register k places) fs fits fine v h =
         go : (c : Bool) → isKnown f ≡ c → v < (pick c (record { low = f; count = 1 }) wholeSpan) .low + (pick c (record { low = f; count = 1 }) wholeSpan) .count → v < 256
         go true w h = let low = known-low f b w in omega arith
         go false w h = omega arith
-span-bytes (bank b p l) fs fits fine v h = let w = bank-span l fits in omega arith
+span-bytes (bank b p l) fs fits fine v h = let w = bank-span l (fits .2) in omega arith
 span-bytes (constant x) fs fits fine v h = omega arith

@@ -20,7 +20,7 @@ use Rattle.transfer.specs.Passes.{pointAt, isDefer, isCall, isReturn, pageAddre
 use Rattle.transfer.specs.Findings.{wordFindings, executedFindings, deferFindings}
 use Rattle.transfer.proofs.Membership.{In, first, later, each-left, each-right, each-picked, each-over, in-over, some-in}
 use Rattle.guarantee.proofs.Questions.{Yes}
-use Rattle.transfer.proofs.Ranges.{ShapeFits}
+use Rattle.machine.proofs.InRange.{ShapeInRange}
 use Rattle.guarantee.proofs.Cells.{Held, Settled}
 
 pub record Licensed (image map table : List ℕ) (depth pc : ℕ) (facts : List ℕ) (w : Shape) : Type 0 where
@@ -29,7 +29,7 @@ pub record Licensed (image map table : List ℕ) (depth pc : ℕ) (facts : List 
   pub site : isCall w ≡ true → isCallSite image table depth pc ≡ true
   pub back : isReturn w ≡ true → 0 < depth → Each (Held table) (returnPasses image table (depth - 1) facts)
   pub here : isDefer w ≡ true → shapeAt image pc ≡ w
-  pub fits : ShapeFits w
+  pub fits : ShapeInRange w
 
 -- a word that is no XEC executes itself
 own-word : (image : List ℕ) (pc : ℕ) (facts : List ℕ) (w : Shape) → isDefer w ≡ false → In w (wordsAt image pc facts w)
@@ -91,7 +91,7 @@ module _ (image map table : List ℕ) (depth pc : ℕ)
   abbrev words : List Shape
   words = wordsAt image pc facts (shapeAt image pc)
 
-  member-licensed : (w : Shape) → In w words → isDefer w ≡ false → ShapeFits w
+  member-licensed : (w : Shape) → In w words → isDefer w ≡ false → ShapeInRange w
       → Each Yes (wordFindings image map table depth pc facts w) → Licensed image map table depth pc facts w
   member-licensed w member plain fits answers =
       record {
@@ -117,7 +117,7 @@ module _ (image map table : List ℕ) (depth pc : ℕ)
       (deferFindings image map table depth pc facts (shapeAt image pc)) (settled .questions)
 
   -- the word at PC itself
-  pub direct-licensed : ShapeFits (shapeAt image pc) → Licensed image map table depth pc facts (shapeAt image pc)
+  pub direct-licensed : ShapeInRange (shapeAt image pc) → Licensed image map table depth pc facts (shapeAt image pc)
   direct-licensed fits = told (isDefer (shapeAt image pc)) refl
     where
       told : (b : Bool) → isDefer (shapeAt image pc) ≡ b → Licensed image map table depth pc facts (shapeAt image pc)
@@ -147,7 +147,7 @@ module _ (image map table : List ℕ) (depth pc : ℕ)
         (each-right (wordFindings image map table depth pc facts (shapeAt image pc))
         (deferFindings image map table depth pc facts (shapeAt image pc)) (settled .questions)))
 
-    pub executed-licensed : ShapeFits (shapeAt image address)
+    pub executed-licensed : ShapeInRange (shapeAt image address)
         → (address < wordCount image) × Licensed image map table depth pc facts (shapeAt image address)
     executed-licensed fits = told executed-answers
       where

@@ -15,7 +15,7 @@ use Rattle.state.specs.State.{overflowSlot, Below}
 use Rattle.machine.specs.Shape.{Source, register, bank, constant, Target, slot, latch}
 use Rattle.machine.specs.Step.{valueOf, resultOf, withOverflow, putValue}
 use Rattle.facts.specs.Facts.{unknown, isKnown, allows, within, sourceFact, resultFact, carryFact, withCarryFact, putFact, factsAfter, Span, factSpan, spanOf, holds}
-use Rattle.facts.proofs.Makes.{SourceFits}
+use Rattle.machine.proofs.InRange.{SourceInRange}
 use Rattle.guarantee.proofs.Within.{allows-same, known-same, within-at, within-set}
 
 -- one value by a fact that may be unknown
@@ -40,12 +40,12 @@ fact-span-holds f v a h =
     (λ k. subst (λ n. holds (record { low = n; count = 1 }) v ≡ true) (sym (known-same f v k a)) (holds-one v))
     (λ k. and-both (le-leb 0 v (omega arith)) (lt-ltb v (0 + 256) (omega arith)))
 
-pub span-holds : (source : Source) (facts values bus : List ℕ) → SourceFits source → Below 256 values → within facts values ≡ true
+pub span-holds : (source : Source) (facts values bus : List ℕ) → SourceInRange source → Below 256 values → within facts values ≡ true
     → holds (spanOf source facts) (valueOf source values bus) ≡ true
 span-holds (register k places) facts values bus fits below h =
     fact-span-holds (sourceFact (register k places) facts) (rotateRight places (getD values k 0))
     (source-allowed (register k places) facts values bus h)
-    (rotate-lt places fits (below k))
+    (rotate-lt places (fits .1) (below k))
 span-holds (bank b p l) facts values bus fits below h =
     let v = fieldOf p l (getD bus b 0) in
     and-both (le-leb 0 v (omega arith)) (lt-ltb v (0 + 2 ^ widthOf l) (omega (arith, field-width p l (getD bus b 0))))

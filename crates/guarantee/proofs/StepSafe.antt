@@ -18,7 +18,7 @@ use Rattle.transfer.specs.Passes.{pageAddress, tableSpace}
 use Rattle.transfer.specs.Findings.{NoFinding}
 use Rattle.guarantee.specs.Safe.{Given, Safe, cellIndex}
 use Rattle.guarantee.proofs.Questions.{Yes, none-no}
-use Rattle.transfer.proofs.Ranges.{shape-at-fits}
+use Rattle.machine.proofs.InRange.{shape-at-in-range}
 use Rattle.guarantee.proofs.Cells.{Settled, settled}
 use Rattle.guarantee.proofs.Licensed.{Licensed, direct-licensed, executed-licensed}
 use Rattle.guarantee.proofs.Granted.{word-granted}
@@ -50,7 +50,7 @@ module _ (image map table : List ℕ) (closed : Closed (tableSpace image) resetC
           let w =
           executed-licensed image map table (s .depth) (s .pc) (safe .inside .reached) cell
           (g .source) (g .page) (g .i) (g .k) (g .isXec) (g .inPage) (g .given)
-          (shape-at-fits image bytes (pageAddress (g .page) (s .pc) (g .k)))
+          (shape-at-in-range image bytes (pageAddress (g .page) (s .pc) (g .k)))
           in
           subst (Fetched s) (sym (g .address)) record { near = w .0; licensed = w .1 }
 
@@ -60,7 +60,7 @@ module _ (image map table : List ℕ) (closed : Closed (tableSpace image) resetC
           record {
             near = safe .inside .near;
             licensed =
-                direct-licensed image map table (s .depth) (s .pc) (safe .inside .reached) cell (shape-at-fits image bytes (s .pc));
+                direct-licensed image map table (s .depth) (s .pc) (safe .inside .reached) cell (shape-at-in-range image bytes (s .pc));
           }
 
   -- every question of the step is answered yes

@@ -25,10 +25,10 @@ use Rattle.transfer.specs.Passes.{toward, wordPasses, isCallSite}
 use Rattle.transfer.specs.Findings.{readQuestions, targetQuestions, controlQuestions}
 use Rattle.guarantee.specs.Safe.{Inside, Returns, Given, Safe, cellIndex}
 use Rattle.transfer.proofs.Membership.{each-left, each-right, each-picked, each-over, each-overDown, below-at, same-or}
-use Rattle.facts.proofs.Makes.{SourceFits}
+use Rattle.machine.proofs.InRange.{SourceInRange}
 use Rattle.guarantee.proofs.Pairs.{span-holds, act-within}
 use Rattle.guarantee.proofs.Questions.{Yes}
-use Rattle.transfer.proofs.Ranges.{gives-place}
+use Rattle.transfer.proofs.Ranges.{gives-place, page-fits}
 use Rattle.guarantee.proofs.Cells.{Held, arrives, facts-length}
 use Rattle.guarantee.proofs.Licensed.{Licensed}
 
@@ -55,14 +55,14 @@ module _ (image map table bus : List ℕ) (s : State) (safe : Safe image table s
   abbrev facts : List ℕ
   facts = cellAt table (cellIndex image s) .facts
 
-  holding : (source : Source) → SourceFits source → holds (spanOf source facts) (valueOf source (s .values) bus) ≡ true
+  holding : (source : Source) → SourceInRange source → holds (spanOf source facts) (valueOf source (s .values) bus) ≡ true
   holding source fits = span-holds source facts (s .values) bus fits (safe .sized .values) (safe .inside .agrees)
 
   -- a value of a source lies in its span
-  span-low : (source : Source) → SourceFits source → spanOf source facts .low ≤ valueOf source (s .values) bus
+  span-low : (source : Source) → SourceInRange source → spanOf source facts .low ≤ valueOf source (s .values) bus
   span-low source fits = leb-true _ _ (and-first _ _ (holding source fits))
 
-  span-high : (source : Source) → SourceFits source
+  span-high : (source : Source) → SourceInRange source
       → valueOf source (s .values) bus < spanOf source facts .low + spanOf source facts .count
   span-high source fits =
       ltb-true _ _ (and-second (leb (spanOf source facts .low) (valueOf source (s .values) bus)) _ (holding source fits))
@@ -143,6 +143,7 @@ module _ (image map table bus : List ℕ) (s : State) (safe : Safe image table s
   defer-after : (source : Source) (page i : ℕ) → Licensed image map table (s .depth) (s .pc) facts (go source (defer page i))
       → After image table (deferTo (inPage page (s .pc) (i + valueOf source (s .values) bus)) s)
   defer-after source page i allowed =
+      let room = page-fits source page (allowed .fits .1 .0) (allowed .fits .1 .2) in
       record {
         running = safe .running;
         inside = record {
@@ -158,9 +159,9 @@ module _ (image map table bus : List ℕ) (s : State) (safe : Safe image table s
           i = i;
           k = (i + valueOf source (s .values) bus) % page;
           isXec = allowed .here refl;
-          inPage = mod-lt _ (allowed .fits .1 .some);
-          given = gives-place page i (spanOf source facts) (valueOf source (s .values) bus) (allowed .fits .1 .some)
-              (allowed .fits .1 .enough facts) (holding source (allowed .fits .0));
+          inPage = mod-lt _ (room .some);
+          given = gives-place page i (spanOf source facts) (valueOf source (s .values) bus) (room .some)
+              (room .enough facts) (holding source (allowed .fits .0));
           address = refl;
         };
       }

@@ -2,15 +2,17 @@
 use mathlib.Core.Bool.{Bool, true, false, false≢true}
 use mathlib.Core.List.{List}
 use mathlib.Core.Path.{_≡_, refl, ap}
-use Prim.Native.Nat.{ℕ, _+_, _*_, _<_}
+use Prim.Native.Nat.{ℕ, _+_, _*_, _^_, _≤_, _<_}
 use native.Mathlib.Omega.{arith}
-use borrow.Author.Tests.{ltb-true, eqb-true}
+use lib.Pow.{pow-mono}
+use borrow.Author.Tests.{ltb-true, eqb-true, eqb-false, le-leb, ne-eqb}
 use lib.Dec.{leb, ltb, eqb}
 use Rattle.choice.proofs.Laws.{pick-both, pick-cases}
 use Rattle.word.specs.declared.Word.{Word}
 use Rattle.word.specs.declared.Word.the-variants.{Move, Add, And, Xor, XecRegister, XecBank, NztRegister, NztBank, Call, Ret, XmitRegister, XmitBank, Jmp, Invalid}
 use Rattle.word.specs.Word.{isBank, isRegisterTarget, isTarget, ActInRange, InRange, decoded}
-use Rattle.word.proofs.Laws.{decoded-in-range}
+use Rattle.word.proofs.Laws.{bank-range, decoded-in-range}
+use Rattle.field.specs.Field.{widthOf}
 use Rattle.state.specs.State.{overflowSlot, Below}
 use Rattle.machine.specs.Shape.{Source, register, bank, constant, Target, slot, latch, Control, jump, branch, defer, call, return, Shape, act, go, invalid}
 use Rattle.machine.specs.Shape.{slotOf, sourceOf, targetOf, placesOf, actShape, shapeOf}
@@ -27,16 +29,23 @@ abbrev pub TargetInRange : Target → Type 0
 TargetInRange (slot k) = (k < 11) × (k ≡ overflowSlot → ⊥)
 TargetInRange (latch b p l) = (b < 2) × (p < 8) × (l < 8)
 
-abbrev pub ControlInRange : Control → Type 0
-ControlInRange (jump a) = a < 8192
-ControlInRange (branch page i) = IsPage page × (i < page)
-ControlInRange (defer page i) = IsPage page × (i < page)
-ControlInRange (call i) = i < 256
-ControlInRange return = Unit
+-- how many values a source may have
+abbrev pub mostValues : Source → ℕ
+mostValues (register k places) = 256
+mostValues (bank b p l) = 2 ^ widthOf l
+mostValues (constant x) = 1
+
+-- an XEC's page has an address for each value of its source
+abbrev pub ControlInRange : Source → Control → Type 0
+ControlInRange source (jump a) = a < 8192
+ControlInRange source (branch page i) = IsPage page × (i < page)
+ControlInRange source (defer page i) = IsPage page × (i < page) × (mostValues source ≤ page)
+ControlInRange source (call i) = i < 256
+ControlInRange source return = Unit
 
 abbrev pub ShapeInRange : Shape → Type 0
 ShapeInRange (act source op target) = SourceInRange source × TargetInRange target
-ShapeInRange (go source control) = SourceInRange source × ControlInRange control
+ShapeInRange (go source control) = SourceInRange source × ControlInRange source control
 ShapeInRange invalid = Unit
 
 -- ---- registers and their slots
@@ -77,6 +86,23 @@ page-256 other = absurd (other refl)
 page-32 : IsPage 32
 page-32 other = refl
 
+-- a page is not empty and has at most 256 addresses
+pub page-range : (page : ℕ) → IsPage page → (0 < page) × (page ≤ 256)
+page-range page p = go (eqb page 256) refl
+  where
+    go : (b : Bool) → eqb page 256 ≡ b → (0 < page) × (page ≤ 256)
+    go true e = let h = eqb-true page 256 e in (omega arith, omega arith)
+    go false e = let h = p (eqb-false page 256 e) in (omega arith, omega arith)
+
+register-page : (s : ℕ) → mostValues (sourceOf s 0 0) ≤ 256
+register-page s = pick-both (λ (source : Source). mostValues source ≤ 256) (leb 16 s) (omega arith) (omega arith)
+
+bank-page : (s l : ℕ) → isBank s ≡ true → 1 ≤ l → l < 6 → mostValues (sourceOf s 0 l) ≤ 32
+bank-page s l b long short =
+    let nonzero : eqb l 0 ≡ false = ne-eqb l 0 (λ e. omega arith) in
+    let most : 2 ^ l ≤ 32 = pow-mono {j = 5} (omega arith) in
+    rw (le-leb 16 s (bank-range s b .0), nonzero) most
+
 act-in-range : (op s rl d : ℕ) → ActInRange s rl d → ShapeInRange (actShape op s rl d)
 act-in-range op s rl d h = (
   source-in-range s (placesOf rl d) rl (pick-both (λ (n : ℕ). n < 8) (leb 16 d) (omega arith) (h .1)) (h .1),
@@ -93,8 +119,8 @@ shape-in-range (Move s rl d) h = act-in-range 0 s rl d h
 shape-in-range (Add s rl d) h = act-in-range 1 s rl d h
 shape-in-range (And s rl d) h = act-in-range 2 s rl d h
 shape-in-range (Xor s rl d) h = act-in-range 3 s rl d h
-shape-in-range (XecRegister s i) h = (whole-in-range s, (page-256, h .2))
-shape-in-range (XecBank s l i) h = (source-in-range s 0 l (omega arith) (h .0 .2), (page-32, h .0 .3))
+shape-in-range (XecRegister s i) h = (whole-in-range s, (page-256, h .2, register-page s))
+shape-in-range (XecBank s l i) h = (source-in-range s 0 l (omega arith) (h .0 .2), (page-32, h .0 .3, bank-page s l (h .0 .1) (h .1) (h .2)))
 shape-in-range (NztRegister s i) h = (whole-in-range s, (page-256, h .2))
 shape-in-range (NztBank s l i) h = (source-in-range s 0 l (omega arith) (h .2), (page-32, h .3))
 shape-in-range (Call i) h = ((omega arith, omega arith), h)

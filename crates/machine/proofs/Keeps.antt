@@ -246,15 +246,15 @@ module _ (s : State) (sound : Sound s) (near : s .pc < 8192) where
       zeroed k h l (yes e) = rw e (getD-set-same (s .returns) (s .depth - 1) 0 0 (omega (arith, sound .sized .returnsLength)))
       zeroed k h l (no n) = getD-set-other (s .returns) (s .depth - 1) k 0 0 n ∙ sound .formed .free k h (omega arith)
 
-  directed-sound : (control : Control) (x : ℕ) → x < 256 → ControlInRange control → mayCall control (s .depth) ≡ true
+  directed-sound : (source : Source) (control : Control) (x : ℕ) → x < 256 → ControlInRange source control → mayCall control (s .depth) ≡ true
       → mayReturn control (s .depth) ≡ true → Sound (goState control x s)
   unfolding goState
-  directed-sound (jump a) x hx r c d = stay-sound a (omega arith)
-  directed-sound (branch page i) x hx r c d =
+  directed-sound source (jump a) x hx r c d = stay-sound a (omega arith)
+  directed-sound source (branch page i) x hx r c d =
       stay-sound _ (pick-both (λ (n : ℕ). n < 65536) (eqb x 0) (omega arith) (omega (arith, page-lt page (s .pc) i (r .0) near)))
-  directed-sound (defer page i) x hx r c d = defer-sound _ (page-lt page (s .pc) (i + x) (r .0) near)
-  directed-sound (call i) x hx r c d = call-sound (x * 256 + i) (omega arith) (ltb-true (s .depth) stackPlaces c)
-  directed-sound return x hx r c d = return-sound (ltb-true 0 (s .depth) d)
+  directed-sound source (defer page i) x hx r c d = defer-sound _ (page-lt page (s .pc) (i + x) (r .0) near)
+  directed-sound source (call i) x hx r c d = call-sound (x * 256 + i) (omega arith) (ltb-true (s .depth) stackPlaces c)
+  directed-sound source return x hx r c d = return-sound (ltb-true 0 (s .depth) d)
 
 stop-sound : (s : State) (number : ℕ) → Sound s → 21 ≤ number → number ≤ 27 → Sound (stopped s number)
 stop-sound s number sound low high =
@@ -359,7 +359,7 @@ word-sound map (go source control) bus s r hb sound near =
     pick-both SoundOutcome (mayRead map source (s .values))
     (pick-cases SoundOutcome (mayCall control (s .depth))
     (λ c. pick-cases SoundOutcome (mayReturn control (s .depth))
-    (λ d. quiet-outcome _ (directed-sound s sound near control _ x (r .1) c d))
+    (λ d. quiet-outcome _ (directed-sound s sound near source control _ x (r .1) c d))
     (λ _. stopped-outcome s 27 sound (omega arith) (omega arith)))
     (λ _. stopped-outcome s 26 sound (omega arith) (omega arith)))
     (stopped-outcome s 23 sound (omega arith) (omega arith))

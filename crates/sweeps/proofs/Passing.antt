@@ -44,7 +44,7 @@ after-bounded facts op x target l b h = go (ltb x 256) refl
     go true w = after-fine (constant x) op target facts (ltb-true x 256 w) (record { long = l; bounded = b }) .bounded
     go false w =
         let e : x ≡ 256 = let q = ltb-false x 256 w in omega arith in
-        subst Made (sym e) (after-fine (bank 0 0 0) op target facts (omega arith) (record { long = l; bounded = b }) .bounded)
+        subst Made (sym e) (after-fine (bank 0 0 0) op target facts (omega arith, omega arith, omega arith) (record { long = l; bounded = b }) .bounded)
 
 module _ {image : List ℕ} where
   -- what is told of one list of passes holds of the list that equals it

@@ -29,7 +29,7 @@ use Rattle.facts.proofs.Records.{part, part-at, part-length, stored-cell, other
 use Rattle.facts.proofs.Makes.{FineFacts, after-fine}
 use Rattle.transfer.specs.Passes.{pointAt, toward, isReturn, isCall, wordsAt, some, wordPasses, allPasses, isCallSite, returnPasses, cellPasses, passesFrom, tableSpace, tableLength, startTable, leastTable}
 use Rattle.transfer.proofs.Membership.{each-left, each-right, each-picked, each-overDown, each-pick, over-each, down-each}
-use Rattle.transfer.proofs.Ranges.{ShapeFits, shape-at-fits}
+use Rattle.machine.proofs.InRange.{ShapeInRange, shape-at-in-range}
 use Rattle.transfer.proofs.Wider.{words-wider, words-fit, some-wider, toward-wider, word-wider, passes-at, passes-from}
 
 replicate-at : (n k a : ℕ) → getD (replicate n a) k a ≡ a
@@ -66,9 +66,9 @@ module _ (image : List ℕ) (bytes : (k : ℕ) → getD image k 0 < 256) where
       each-pick (ltb a (wordCount image))
       (λ h. also (record { inside = digits-lt d (ltb-true a (wordCount image) h); fine = reached-fine fs f }) none)
 
-  word-fits : (depth pc : ℕ) (fs : List ℕ) (w : Shape) → ShapeFits w → depth < depths → FineFacts fs → Each Fit (wordPasses (wordCount image) depth pc fs w)
+  word-fits : (depth pc : ℕ) (fs : List ℕ) (w : Shape) → ShapeInRange w → depth < depths → FineFacts fs → Each Fit (wordPasses (wordCount image) depth pc fs w)
   unfolding wordPasses
-  word-fits depth pc fs (act source op target) s d f = toward-fits depth (pc + 1) (factsAfter source op target fs) d (after-fine source op target fs s f)
+  word-fits depth pc fs (act source op target) s d f = toward-fits depth (pc + 1) (factsAfter source op target fs) d (after-fine source op target fs (s .0) f)
   word-fits depth pc fs (go source (jump a)) s d f = toward-fits depth a fs d f
   word-fits depth pc fs (go source (branch page i)) s d f =
       each-append (each-pick (mayBeZero (spanOf source fs)) (λ z. toward-fits depth (pc + 1) fs d f))
@@ -87,7 +87,7 @@ module _ (image : List ℕ) (bytes : (k : ℕ) → getD image k 0 < 256) where
   cell-fits t depth pc fs d f =
       each-append
       (passes-from image t (wordCount image) depth pc fs (wordsAt image pc fs (shapeAt image pc))
-      (λ w i. word-fits depth pc fs w (words-fit image bytes pc (shapeAt image pc) fs (shape-at-fits image bytes pc) i) d f))
+      (λ w i. word-fits depth pc fs w (words-fit image bytes pc (shapeAt image pc) fs (shape-at-in-range image bytes pc) i) d f))
       (each-pick (ltb 0 depth && some isReturn (wordsAt image pc fs (shapeAt image pc)))
       (λ h. down-each (wordCount image) (isCallSite image t (depth - 1)) (λ a. toward (wordCount image) (depth - 1) (a + 1) fs) (λ a l s. toward-fits (depth - 1) (a + 1) fs (omega arith) f)))
 
@@ -100,7 +100,7 @@ module _ (image : List ℕ) (bytes : (k : ℕ) → getD image k 0 < 256) where
       let up = b .covered i (digits-lt d l) in
       let r = and-first (cellAt t i .reached) (some isCall (wordsAt image a (cellAt t i .facts) (shapeAt image a))) s in
       and-both (reached-above (cellAt u i) (cellAt t i) r up)
-      (some-wider image a (shapeAt image a) (cellAt u i .facts) (cellAt t i .facts) isCall (shape-at-fits image bytes a) (known-above (cellAt u i) (cellAt t i) r up)
+      (some-wider image a (shapeAt image a) (cellAt u i .facts) (cellAt t i .facts) isCall (shape-at-in-range image bytes a) (known-above (cellAt u i) (cellAt t i) r up)
       (and-second (cellAt t i .reached) (some isCall (wordsAt image a (cellAt t i .facts) (shapeAt image a))) s))
 
   cell-wider : (t u : List ℕ) → Below (tableSpace image) t u → (depth pc : ℕ) (gs fs : List ℕ) → depth < depths → FineFacts gs → FineFacts fs → allKnowNoMore gs fs ≡ true
@@ -108,7 +108,7 @@ module _ (image : List ℕ) (bytes : (k : ℕ) → getD image k 0 < 256) where
   cell-wider t u b depth pc gs fs d g f h e =
       let n = wordCount image in
       let sh = shapeAt image pc in
-      let ok = shape-at-fits image bytes pc in
+      let ok = shape-at-in-range image bytes pc in
       let words = allPasses n depth pc gs (wordsAt image pc gs sh) in
       let back = pick (ltb 0 depth && some isReturn (wordsAt image pc gs sh)) (returnPasses image u (depth - 1) gs) [] in
       each-append

@@ -24,7 +24,8 @@ use Rattle.facts.proofs.Cells.{holds-trans}
 use Rattle.facts.proofs.Makes.{FineFacts, after-no-more, span-cases, span-bytes}
 use Rattle.transfer.specs.Passes.{over, pointAt, toward, gives, pageAddress, canBeExecuted, wordsAt, some, wordPasses, allPasses, tableSpace}
 use Rattle.transfer.proofs.Membership.{In, first, later, each-left, each-right, each-picked, each-over, each-pick, over-each, in-over, in-one, over-in, some-in, some-out}
-use Rattle.transfer.proofs.Ranges.{PageFits, ShapeFits, shape-at-fits}
+use Rattle.machine.proofs.InRange.{ShapeInRange, shape-at-in-range}
+use Rattle.transfer.proofs.Ranges.{PageFits, page-fits}
 
 -- ---- the words that a cell executes
 
@@ -35,7 +36,7 @@ gives-wider source page i k gs fs fits h g =
     span-cases source gs fs h (λ e. rw e g)
     (λ e. rw e (lt-ltb ((k + (page - (i + 0) % page)) % page) 256 (lt-of-lt-of-le (mod-lt (k + (page - (i + 0) % page)) (fits .some)) (fits .most))))
 
-pub words-wider : (image : List ℕ) (pc : ℕ) (sh : Shape) (gs fs : List ℕ) {w : Shape} → ShapeFits sh → allKnowNoMore gs fs ≡ true
+pub words-wider : (image : List ℕ) (pc : ℕ) (sh : Shape) (gs fs : List ℕ) {w : Shape} → ShapeInRange sh → allKnowNoMore gs fs ≡ true
     → In w (wordsAt image pc fs sh) → In w (wordsAt image pc gs sh)
 unfolding wordsAt
 words-wider image pc (act source op target) gs fs f h i = i
@@ -46,7 +47,7 @@ words-wider image pc (go source (defer page n)) gs fs f h i =
     (λ k low high t m.
     in-over 0 page (λ k. gives page n (spanOf source gs) k && canBeExecuted image (pageAddress page pc k)) (λ k. shapeAt image (pageAddress page pc k) ∷ []) k low high
     (and-both
-    (gives-wider source page n k gs fs (f .1) h (and-first (gives page n (spanOf source fs) k) (canBeExecuted image (pageAddress page pc k)) t))
+    (gives-wider source page n k gs fs (page-fits source page (f .1 .0) (f .1 .2)) h (and-first (gives page n (spanOf source fs) k) (canBeExecuted image (pageAddress page pc k)) t))
     (and-second (gives page n (spanOf source fs) k) (canBeExecuted image (pageAddress page pc k)) t))
     m)
 words-wider image pc (go source (call n)) gs fs f h i = i
@@ -54,20 +55,20 @@ words-wider image pc (go source return) gs fs f h i = i
 words-wider image pc invalid gs fs f h i = i
 
 -- each of them has its fields in range
-pub words-fit : (image : List ℕ) → ((k : ℕ) → getD image k 0 < 256) → (pc : ℕ) (sh : Shape) (fs : List ℕ) {w : Shape} → ShapeFits sh
-    → In w (wordsAt image pc fs sh) → ShapeFits w
+pub words-fit : (image : List ℕ) → ((k : ℕ) → getD image k 0 < 256) → (pc : ℕ) (sh : Shape) (fs : List ℕ) {w : Shape} → ShapeInRange sh
+    → In w (wordsAt image pc fs sh) → ShapeInRange w
 unfolding wordsAt
 words-fit image bytes pc (act source op target) fs f i = rw (in-one i) f
 words-fit image bytes pc (go source (jump a)) fs f i = rw (in-one i) f
 words-fit image bytes pc (go source (branch page n)) fs f i = rw (in-one i) f
 words-fit image bytes pc (go source (defer page n)) fs f i =
     over-in 0 page (λ k. gives page n (spanOf source fs) k && canBeExecuted image (pageAddress page pc k)) (λ k. shapeAt image (pageAddress page pc k) ∷ []) i
-    (λ k low high t m. rw (in-one m) (shape-at-fits image bytes (pageAddress page pc k)))
+    (λ k low high t m. rw (in-one m) (shape-at-in-range image bytes (pageAddress page pc k)))
 words-fit image bytes pc (go source (call n)) fs f i = rw (in-one i) f
 words-fit image bytes pc (go source return) fs f i = rw (in-one i) f
 words-fit image bytes pc invalid fs f i = rw (in-one i) f
 
-pub some-wider : (image : List ℕ) (pc : ℕ) (sh : Shape) (gs fs : List ℕ) (test : Shape → Bool) → ShapeFits sh → allKnowNoMore gs fs ≡ true
+pub some-wider : (image : List ℕ) (pc : ℕ) (sh : Shape) (gs fs : List ℕ) (test : Shape → Bool) → ShapeInRange sh → allKnowNoMore gs fs ≡ true
     → some test (wordsAt image pc fs sh) ≡ true → some test (wordsAt image pc gs sh) ≡ true
 some-wider image pc sh gs fs test f h s =
     some-out test (wordsAt image pc fs sh) s (λ w i t. some-in test (words-wider image pc sh gs fs f h i) t)
@@ -95,7 +96,7 @@ module _ (image u : List ℕ) where
   other-wider : (source : Source) (gs fs : List ℕ) → allKnowNoMore gs fs ≡ true → mayBeOther (spanOf source fs) ≡ true → mayBeOther (spanOf source gs) ≡ true
   other-wider source gs fs h z = span-cases source gs fs h (λ e. rw e z) (λ e. rw e)
 
-  pub word-wider : (words depth pc : ℕ) (gs fs : List ℕ) (w : Shape) → ShapeFits w → FineFacts gs → FineFacts fs → allKnowNoMore gs fs ≡ true
+  pub word-wider : (words depth pc : ℕ) (gs fs : List ℕ) (w : Shape) → ShapeInRange w → FineFacts gs → FineFacts fs → allKnowNoMore gs fs ≡ true
       → Each Held (wordPasses words depth pc gs w) → Each Held (wordPasses words depth pc fs w)
   unfolding wordPasses
   word-wider words depth pc gs fs (act source op target) f g k h e =

@@ -1,12 +1,13 @@
 -- `callers::gives` meets its contract. Assumes nothing.
 use native.Mathlib.Omega.{arith}
-use Rattle.callers.proofs.Executing.{page-most, gives-told}
+use Rattle.machine.proofs.InRange.{page-range}
+use Rattle.callers.proofs.Executing.{gives-told}
 use borrow.Author.Needs.{needs}
 use Rattle.callers.proofs.gives.Statement.{statement}
 use Rattle.callers.proofs.gives.Tie as tie
 
 add-kept-2 : tie.Need-add-kept-2
-add-kept-2 c = omega (arith, page-most (c .before .before .args .page) (c .before .before .pre .0), c .before .before .pre .3)
+add-kept-2 c = omega (arith, page-range (c .before .before .args .page) (c .before .before .pre .0) .1, c .before .before .pre .3)
 
 returns : tie.Need-returns
 returns c =
