@@ -11,6 +11,8 @@ ghost use Rattle.cells.specs.Cells.{Bounded};
 ghost use Rattle.transfer.specs.Passes.{gives, pageAddress, canBeExecuted, isCall, isReturn, some, wordsAt, isCallSite};
 ghost use Rattle.callers.specs.Callers.{spanIs, InImage, Held};
 use machine::form::Form;
+use machine::form::LONG_PAGE;
+use machine::form::SHORT_PAGE;
 
 // The values that a source may have: count of them from low on.
 pub struct Values {
@@ -47,10 +49,10 @@ fn kept(page: usize, x: usize) -> usize
     requires { ⌜ IsPage page ⌝ }
     ensures { λ r. ⌜ (r ≡ x % page) × (r < page) ⌝ }
 {
-    if page == 256 {
-        return x % 256;
+    if page == LONG_PAGE {
+        return x % LONG_PAGE;
     }
-    x % 32
+    x % SHORT_PAGE
 }
 
 // May an XEC with the constant i, whose source has the values v, give the address at place k of its page?

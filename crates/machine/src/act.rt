@@ -189,7 +189,7 @@ pub fn places(rl: usize, d: usize) -> usize
     if d < word::FIRST_BANK { rl } else { 0 }
 }
 
-// A word that delivers a source to a target: where kind is 0 the source s, where it is 1 the constant i; 2 is no such word.
+// A word that delivers a source to a target: where kind is 0 the source s, where it is 1 the constant i.
 pub struct Delivery {
     pub kind: usize,
     pub op: usize,

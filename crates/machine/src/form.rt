@@ -61,9 +61,9 @@ fn transmission(d: usize, l: usize, i: usize) -> Form
 }
 
 // A page has 256 addresses, or 32 for a word that reads a bank.
-pub(crate) const LONG_PAGE: usize = 256;
+pub const LONG_PAGE: usize = 256;
 
-pub(crate) const SHORT_PAGE: usize = 32;
+pub const SHORT_PAGE: usize = 32;
 
 pub fn form_of(word: Word) -> Form
     requires { ⌜ InRange word ⌝ }

@@ -1,5 +1,4 @@
 -- Each return: the tests of the two lists that led there.
-use mathlib.Core.Bool.{and-false}
 use borrow.Author.Needs.{needs}
 use Rattle.word.proofs.decode_act.Statement.{statement}
 use Rattle.word.proofs.decode_act.Tie as tie

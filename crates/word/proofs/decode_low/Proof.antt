@@ -1,7 +1,7 @@
 -- Each return: what the group's function reads is what the definition reads at this opcode.
 use mathlib.Core.Path.{_≡_, sym, _∙_}
 use borrow.Author.Needs.{needs}
-use borrow.Author.Tests.{lt-ltb, le-ltb, eq-eqb, ne-eqb}
+use borrow.Author.Tests.{lt-ltb}
 use native.Mathlib.Omega.{arith}
 use Rattle.word.proofs.Laws.{low-decoded}
 use Rattle.word.proofs.decode_low.Statement.{statement}
