@@ -14,8 +14,8 @@ use Rattle.callers.specs.Callers.{Held}
 use Rattle.callers.proofs.Points.{point-inside}
 
 module _ (image table : List ℕ) (depth a : ℕ) where
-  pub no-site : {c : Cell} → c ≡ cellAt table (pointAt (wordCount image) depth a) → not (c .reached) ≡ true → false ≡ isCallSite image table depth a
-  no-site {c} e h = rw (← e) (none (c .reached) (some isCall (wordsAt image a (c .facts) (shapeAt image a))) h)
+  pub no-site : {b : Bool} → b ≡ cellAt table (pointAt (wordCount image) depth a) .reached → not b ≡ true → false ≡ isCallSite image table depth a
+  no-site {b} e h = rw (← e) (none b (some isCall (wordsAt image a (cellAt table (pointAt (wordCount image) depth a) .facts) (shapeAt image a))) h)
     where
       none : (b d : Bool) → not b ≡ true → false ≡ b && d
       none true d h = absurd (false≢true h)

@@ -61,11 +61,11 @@ module _ (image t₀ : List ℕ) (depth : ℕ) (facts : List ℕ) where
         same = λ j l h. refl;
       }
 
-  pub backing-next : (a : ℕ) {t u : List ℕ} {f r : Bool} (site : Bool) → depth < depths → FineCell (cellOf true facts) → 0 < a → Backing a t f
-      → site ≡ isCallSite image t depth (a - 1)
-      → Passed image depth t (pick site (toward (wordCount image) depth (a - 1 + 1) facts) []) u r
+  pub backing-next : (a : ℕ) {t u : List ℕ} {f r : Bool} → depth < depths → FineCell (cellOf true facts) → 0 < a → Backing a t f
+      → Passed image depth t (pick (isCallSite image t depth (a - 1)) (toward (wordCount image) depth (a - 1 + 1) facts) []) u r
       → Backing (a - 1) u (f || r)
-  backing-next a {t = t} {u = u} {f = f} {r = r} site d fine some b e p =
+  backing-next a {t = t} {u = u} {f = f} {r = r} d fine some b p =
+      let site = isCallSite image t depth (a - 1) in
       record {
         within = omega (arith, b .within);
         done = b .done ++ pick site (toward (wordCount image) depth (a - 1 + 1) facts) [];
@@ -81,8 +81,8 @@ module _ (image t₀ : List ℕ) (depth : ℕ) (facts : List ℕ) where
             ∙ b .same j (omega arith) h;
       }
     where
-      asked : site ≡ isCallSite image t₀ depth (a - 1)
-      asked = e ∙ same-site image t t₀ depth (a - 1) (b .same (a - 1) (omega arith) (omega (arith, b .within)))
+      asked : isCallSite image t depth (a - 1) ≡ isCallSite image t₀ depth (a - 1)
+      asked = same-site image t t₀ depth (a - 1) (b .same (a - 1) (omega arith) (omega (arith, b .within)))
 
   pub backing-ends : (a : ℕ) {t : List ℕ} {f : Bool} → a ≡ 0 → Backing a t f → Passed image depth t₀ (returnPasses image t₀ depth facts) t f
   backing-ends a {t = t} {f = f} z b =

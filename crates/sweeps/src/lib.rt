@@ -13,7 +13,7 @@ ghost use Rattle.flow.specs.Flow.{turn, turnChanges, sweep, sweepChanges};
 ghost use Rattle.facts.specs.Record.{recordSize, depths};
 ghost use Rattle.cells.specs.Cells.{Bounded};
 ghost use Rattle.callers.specs.Callers.{spanIs, InImage};
-ghost use Rattle.transfer.specs.Passes.{pointAt, toward, gives, pageAddress, canBeExecuted, wordsAt, some, isReturn, wordPasses, allPasses, returnPasses, tableSpace, leastTable};
+ghost use Rattle.transfer.specs.Passes.{pointAt, toward, gives, isCallSite, pageAddress, canBeExecuted, wordsAt, some, isReturn, wordPasses, allPasses, returnPasses, tableSpace, leastTable};
 ghost use Rattle.sweeps.specs.Sweeps.{Laid, Passed};
 use callers::Values;
 use facts::Cell;
@@ -227,6 +227,19 @@ fn pass_words(
     pass_word(image, table, depth, pc, facts, form)
 }
 
+// To the address after a, if the cell there is a call site. A cell that is not reached is told by one byte, before the rest
+// is called.
+fn pass_after(image: &[u8], table: &mut [u8], depth: usize, a: usize, facts: [u16; 11]) -> bool
+    requires { ⌜ Laid (now image) (now table) × (depth < 9) × InImage (now image) a × Bounded facts ⌝ }
+    ensures { λ r. ⌜ Passed (now (image .entry)) depth (now (table .entry)) (pick (isCallSite (now (image .entry)) (now (table .entry)) depth a) (toward (wordCount (now (image .entry))) depth (a + 1) facts) []) (now (table .exit)) r ⌝ }
+{
+    if !cells::reached(table, depth * (image.len() / 2) + a) {
+        return false;
+    }
+    let site = callers::is_call_site(image, table, depth, a);
+    pass_if(image, table, depth, a + 1, facts, site)
+}
+
 // RET back to a depth: to the address after every call site there, from the last on, so that a cell that changes is
 // none that is still to be asked.
 fn pass_back(image: &[u8], table: &mut [u8], depth: usize, facts: [u16; 11]) -> bool
@@ -237,8 +250,7 @@ fn pass_back(image: &[u8], table: &mut [u8], depth: usize, facts: [u16; 11]) -> 
     let mut a = image.len() / 2;
     while 0 < a {
         a -= 1;
-        let site = callers::is_call_site(image, table, depth, a);
-        let r = pass_if(image, table, depth, a + 1, facts, site);
+        let r = pass_after(image, table, depth, a, facts);
         changed = changed | r;
     }
     changed

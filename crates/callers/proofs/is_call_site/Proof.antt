@@ -1,7 +1,9 @@
 -- `callers::is_call_site` meets its contract. Assumes nothing.
+use mathlib.Core.Path.{ap}
 use native.Mathlib.Omega.{arith}
 use denote.Ref.{now}
 use Rattle.machine.specs.Step.{wordCount}
+use Rattle.facts.specs.declared.Cell.{Cell}
 use Rattle.callers.proofs.Points.{point-small, point-room}
 use Rattle.callers.proofs.Sites.{no-site, site, site-bounded}
 use borrow.Author.Needs.{needs}
@@ -26,7 +28,7 @@ load-requires c κs =
 returns : tie.Need-returns
 returns c =
     let start = c .before .before .before .before .before in
-    no-site (now (start .args .image)) (now (start .args .table)) (start .args .depth) (start .args .a) (c .before .before .load .ensures) (c .if1 .taken)
+    no-site (now (start .args .image)) (now (start .args .table)) (start .args .depth) (start .args .a) (ap (λ (cell : Cell). cell .reached) (c .before .before .load .ensures)) (c .if1 .taken)
 
 performs-requires : tie.Need-performs-requires
 performs-requires c κs =

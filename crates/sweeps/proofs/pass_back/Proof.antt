@@ -3,7 +3,7 @@ use native.Mathlib.Omega.{arith}
 use denote.Ref.{now}
 use borrow.Author.Needs.{needs}
 use Rattle.sweeps.proofs.Passing.{same-size, reached-fine}
-use Rattle.sweeps.proofs.Returning.{held, Backing, backing-begins, backing-next, backing-ends}
+use Rattle.sweeps.proofs.Returning.{Backing, backing-begins, backing-next, backing-ends}
 use Rattle.sweeps.proofs.pass_back.Statement.{statement}
 use Rattle.sweeps.proofs.pass_back.Tie as tie
 
@@ -19,34 +19,27 @@ loop-holds c =
     let a = start .args in
     backing-begins (now (a .image)) (now (a .table)) (a .depth) (a .facts) (start .pre .0 .layout)
 
-is-call-site-requires : tie.Need-is-call-site-requires Inv-loop μ-loop
-is-call-site-requires c κs =
+pass-after-requires : tie.Need-pass-after-requires Inv-loop μ-loop
+pass-after-requires c κs =
     let start = c .before .before .before .before .before in
     let p = c .before .before .loop in (
-      held (now (start .args .image)) (p .table) (start .pre .0 .words) (p .inv .passed .laid),
+      record { words = start .pre .0 .words; layout = p .inv .passed .laid },
       start .pre .1,
-      omega (arith, p .inv .within, c .before .loop-test .taken),
+      record { words = start .pre .0 .words; inside = omega (arith, p .inv .within, c .before .loop-test .taken) },
+      start .pre .2,
     )
 
-add-pass-if : tie.Need-add-pass-if Inv-loop μ-loop
-add-pass-if c = omega (arith, c .before .before .before .before .loop .inv .within, c .before .before .before .before .before .before .before .pre .0 .words)
-
-pass-if-requires : tie.Need-pass-if-requires Inv-loop μ-loop
-pass-if-requires c κs =
-    let start = c .before .before .before .before .before .before .before in
-    (record { words = start .pre .0 .words; layout = c .before .before .before .before .loop .inv .passed .laid }, start .pre .1, start .pre .2)
-
 loop-less : tie.Need-loop-less Inv-loop μ-loop
-loop-less c = omega (arith, c .before .before .before .before .before .before .loop-test .taken)
+loop-less c = omega (arith, c .before .before .before .before .loop-test .taken)
 
 loop-again : tie.Need-loop-again Inv-loop μ-loop
 loop-again c =
-    let start = c .before .before .before .before .before .before .before .before .before .before in
+    let start = c .before .before .before .before .before .before .before .before in
     let a = start .args in
-    let p = c .before .before .before .before .before .before .before .loop in
+    let p = c .before .before .before .before .before .loop in
     let known = start .good .0 in
-    backing-next (now (a .image)) (now (a .table)) (a .depth) (a .facts) (p .a) (c .before .before .before .before .is-call-site .result) (start .pre .1)
-    (reached-fine (a .facts) (omega (arith, known)) (start .pre .2)) (c .before .before .before .before .before .before .loop-test .taken) (p .inv) (c .before .before .before .before .is-call-site .ensures) (c .before .before .pass-if .ensures)
+    backing-next (now (a .image)) (now (a .table)) (a .depth) (a .facts) (p .a) (start .pre .1)
+    (reached-fine (a .facts) (omega (arith, known)) (start .pre .2)) (c .before .before .before .before .loop-test .taken) (p .inv) (c .before .before .pass-after .ensures)
 
 same-length : tie.Need-same-length Inv-loop μ-loop
 same-length c = same-size (c .before .before .before .before .pre .0 .layout) (c .before .loop .inv .passed .laid)
@@ -60,5 +53,5 @@ returns c =
 pub pass-back-spec : {M : Type 1} → statement M
 pass-back-spec =
     tie.close
-    (tie.spec Inv-loop μ-loop loop-holds (λ c. search needs) is-call-site-requires add-pass-if pass-if-requires
-    loop-less loop-again same-length returns)
+    (tie.spec Inv-loop μ-loop loop-holds (λ c. search needs) pass-after-requires loop-less loop-again same-length
+    returns)
