@@ -65,6 +65,20 @@ pub const LONG_PAGE: usize = 256;
 
 pub const SHORT_PAGE: usize = 32;
 
+// NZT.
+fn branching(s: usize, l: usize, page: usize, i: usize) -> Form
+    ensures { λ r. ⌜ r ≡ Form.Branch s l page i ⌝ }
+{
+    Form::Branch { s, l, page, i }
+}
+
+// XEC.
+fn deferring(s: usize, l: usize, page: usize, i: usize) -> Form
+    ensures { λ r. ⌜ r ≡ Form.Defer s l page i ⌝ }
+{
+    Form::Defer { s, l, page, i }
+}
+
 pub fn form_of(word: Word) -> Form
     requires { ⌜ InRange word ⌝ }
     ensures { λ r. ⌜ (shapeIs r ≡ shapeOf word) × FormFits r ⌝ }
@@ -74,38 +88,10 @@ pub fn form_of(word: Word) -> Form
         Word::Add { s, rl, d } => return operation(1, s, rl, d),
         Word::And { s, rl, d } => return operation(2, s, rl, d),
         Word::Xor { s, rl, d } => return operation(3, s, rl, d),
-        Word::XecRegister { s, i } => {
-            return Form::Defer {
-                s,
-                l: 0,
-                page: LONG_PAGE,
-                i,
-            };
-        }
-        Word::XecBank { s, l, i } => {
-            return Form::Defer {
-                s,
-                l,
-                page: SHORT_PAGE,
-                i,
-            };
-        }
-        Word::NztRegister { s, i } => {
-            return Form::Branch {
-                s,
-                l: 0,
-                page: LONG_PAGE,
-                i,
-            };
-        }
-        Word::NztBank { s, l, i } => {
-            return Form::Branch {
-                s,
-                l,
-                page: SHORT_PAGE,
-                i,
-            };
-        }
+        Word::XecRegister { s, i } => return deferring(s, 0, LONG_PAGE, i),
+        Word::XecBank { s, l, i } => return deferring(s, l, SHORT_PAGE, i),
+        Word::NztRegister { s, i } => return branching(s, 0, LONG_PAGE, i),
+        Word::NztBank { s, l, i } => return branching(s, l, SHORT_PAGE, i),
         Word::Call { i } => return Form::Call { i },
         Word::Ret => return Form::Return,
         Word::XmitRegister { d, i } => return transmission(d, 0, i),

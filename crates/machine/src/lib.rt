@@ -66,27 +66,17 @@ fn execute(
     ensures { λ r. ⌜ outcome r (now (values .exit)) (now (latches .exit)) (now (returns .exit)) ≡ wordStep (now (map .entry)) (shapeIs form) (left ∷ right ∷ []) (whole q (now (values .entry)) (now (latches .entry)) (now (returns .entry))) ⌝ }
 {
     match form {
-        Form::Act(a) => {
-            return act::act(map, left, right, a, q, values, latches);
-        }
-        Form::Jump { a } => {
-            return go::go_to(a, q.depth);
-        }
+        Form::Act(a) => return act::act(map, left, right, a, q, values, latches),
+        Form::Jump { a } => return go::go_to(a, q.depth),
         Form::Branch { s, l, page, i } => {
             return go::nzt(map, left, right, s, l, page, i, q, values);
         }
         Form::Defer { s, l, page, i } => {
             return go::xec(map, left, right, s, l, page, i, q, values);
         }
-        Form::Call { i } => {
-            return go::call(i, q, values, returns);
-        }
-        Form::Return => {
-            return go::ret(q, returns);
-        }
-        Form::Invalid => {
-            return stop(q, 22);
-        }
+        Form::Call { i } => return go::call(i, q, values, returns),
+        Form::Return => return go::ret(q, returns),
+        Form::Invalid => return stop(q, 22),
     }
 }
 

@@ -1,7 +1,7 @@
 -- `machine::form::form_of` meets its contract: each kind of word has the shape that its form stands for. Assumes nothing.
 use mathlib.Core.Path.{refl}
 use native.Mathlib.Omega.{arith}
-use Rattle.machine.specs.declared.form.Form.the-variants.{Jump, Branch, Defer, Call, Return, Invalid}
+use Rattle.machine.specs.declared.form.Form.the-variants.{Jump, Call, Return, Invalid}
 use Rattle.machine.specs.Shape.{shapeOf}
 use Rattle.machine.proofs.Forming.{formed}
 use borrow.Author.Needs.{needs}
@@ -26,13 +26,17 @@ form-of-spec =
     (λ c κs. search needs)
     (λ c. formed (c .before .before .word4 .given .1) (c .operation4 .ensures) (c .before .before .before .before .pre) (λ h. (refl, (h .1, omega arith))))
     (λ c. search needs)
-    (λ c. formed {r = Defer (c .before .word5 .given .0 .0) 0 256 _} (c .before .word5 .given .1) refl (c .before .before .before .pre) (λ h. (refl, (omega arith, λ n. absurd (n refl), h .2))))
+    (λ c κs. search needs)
+    (λ c. formed (c .before .before .word5 .given .1) (c .deferring .ensures) (c .before .before .before .before .pre) (λ h. (refl, (omega arith, λ n. absurd (n refl), h .2))))
     (λ c. search needs)
-    (λ c. formed {r = Defer (c .before .word6 .given .0 .0) _ 32 _} (c .before .word6 .given .1) refl (c .before .before .before .pre) (λ h. (refl, (h .0 .2, λ n. refl, let i = h .0 .3 in omega arith))))
+    (λ c κs. search needs)
+    (λ c. formed (c .before .before .word6 .given .1) (c .deferring2 .ensures) (c .before .before .before .before .pre) (λ h. (refl, (h .0 .2, λ n. refl, let i = h .0 .3 in omega arith))))
     (λ c. search needs)
-    (λ c. formed {r = Branch (c .before .word7 .given .0 .0) 0 256 _} (c .before .word7 .given .1) refl (c .before .before .before .pre) (λ h. (refl, (omega arith, λ n. absurd (n refl)))))
+    (λ c κs. search needs)
+    (λ c. formed (c .before .before .word7 .given .1) (c .branching .ensures) (c .before .before .before .before .pre) (λ h. (refl, (omega arith, λ n. absurd (n refl)))))
     (λ c. search needs)
-    (λ c. formed {r = Branch (c .before .word8 .given .0 .0) _ 32 _} (c .before .word8 .given .1) refl (c .before .before .before .pre) (λ h. (refl, (h .2, λ n. refl))))
+    (λ c κs. search needs)
+    (λ c. formed (c .before .before .word8 .given .1) (c .branching2 .ensures) (c .before .before .before .before .pre) (λ h. (refl, (h .2, λ n. refl))))
     (λ c. search needs)
     (λ c. formed {r = Call _} (c .before .word9 .given .1) refl (c .before .before .before .pre) (λ h. (refl, h)))
     (λ c. search needs)
