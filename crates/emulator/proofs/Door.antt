@@ -10,7 +10,7 @@ use lib.ListN.{length}
 use Rattle.choice.proofs.Laws.{and-second}
 use Rattle.map.specs.Map.{mapLength}
 use Rattle.state.specs.declared.State.{State}
-use Rattle.state.specs.State.{stateLength, Below, loaded, stored, wellFormed}
+use Rattle.state.specs.State.{stateLength, EachBelow, loaded, stored, wellFormed}
 use Rattle.state.proofs.RoundTrip.{load-then-store, loaded-sized}
 use Rattle.state.proofs.WellFormed.{well-formed-parts}
 use Rattle.machine.specs.Step.{wordCount}
@@ -18,7 +18,7 @@ use Rattle.machine.specs.Parts.{whole}
 use Rattle.emulator.specs.declared.Last.{Last}
 use Rattle.emulator.specs.declared.RunAnswer.the-variants.{Refused, Ended}
 use Rattle.emulator.specs.Run.{pairLength, pairCount, recordLength, Ran, ranOver, imageFits, stateFits, RunResult, yielded, ended, runResult}
-use Rattle.emulator.specs.Parts.{lastState, ranTo, laid, Accepted}
+use Rattle.emulator.specs.Parts.{lastState, ranTo, laidOver, Accepted}
 use Rattle.emulator.proofs.Going.{ran-stopped}
 
 -- ---- the steps
@@ -43,7 +43,7 @@ running s h =
 letIn : Ran → RunResult
 letIn r = yielded (Ended (r .count) (r .state .stop)) (stored (r .state)) (r .trace)
 
-pub finished : (last : Last) (v l r bytes written trace : List ℕ) (ran : Ran) → ranTo last v l r written ≡ laid ran trace
+pub finished : (last : Last) (v l r bytes written trace : List ℕ) (ran : Ran) → ranTo last v l r written ≡ laidOver ran trace
     → bytes ≡ stored (lastState last v l r) → yielded (Ended (last .count) (last .stop)) bytes written ≡ ended trace ran
 unfolding letIn
 finished last v l r bytes written trace ran e b =
@@ -120,7 +120,7 @@ module _ (image map state recording trace : List ℕ) where
                 ) h
 
             -- a state that came in stopped
-            pub came-stopped : length state ≡ stateLength → Below 256 state → (loaded state .stop ≡ 0 → ⊥)
+            pub came-stopped : length state ≡ stateLength → EachBelow 256 state → (loaded state .stop ≡ 0 → ⊥)
                 → yielded (Ended 0 (loaded state .stop)) state trace ≡ runResult image map state recording trace
             came-stopped full bytes stopped =
                 let-in (yielded (Ended 0 (loaded state .stop)) state trace)
@@ -129,7 +129,7 @@ module _ (image map state recording trace : List ℕ) where
 
 -- what the steps need
 pub let-in-sound : (image map state recording trace : List ℕ) → imageFits image ≡ true → length map ≡ mapLength
-    → length state ≡ stateLength → wellFormed (loaded state) ≡ true → Below 256 state → length trace ≡ pairCount recording * recordLength
+    → length state ≡ stateLength → wellFormed (loaded state) ≡ true → EachBelow 256 state → length trace ≡ pairCount recording * recordLength
     → Accepted image map recording trace (loaded state)
 let-in-sound image map state recording trace words long full formed bytes room =
     record {

@@ -9,27 +9,27 @@ use borrow.Author.Tests.{eq-eqb, ne-eqb}
 use lib.ListN.{length, getD, take, drop, length-take, length-drop, take-append-drop}
 use lib.Seq.{drop-cons, drop-drop, length-take-le}
 use Rattle.state.specs.declared.State.{State}
-use Rattle.state.specs.State.{Below}
+use Rattle.state.specs.State.{EachBelow}
 use Rattle.machine.specs.declared.Sequencer.{Sequencer}
 use Rattle.machine.specs.declared.Effect.{Effect}
 use Rattle.machine.specs.Parts.{whole, outcome}
 use Rattle.machine.specs.Step.{wordCount, Outcome, stepped}
 use Rattle.machine.proofs.Keeps.{Sound, SoundOutcome, step-sound}
-use Rattle.emulator.specs.Run.{pairLength, pairCount, recordLength, Ran, still, after, ranOver, writtenOver}
-use Rattle.emulator.specs.Parts.{traceRecordOf, TraceBytes, sequencerOf, lastState, ranTo, laid, Accepted}
+use Rattle.emulator.specs.Run.{pairLength, pairCount, recordLength, Ran, noStep, after, ranOver, writtenOver}
+use Rattle.emulator.specs.Parts.{traceRecordOf, TraceBytes, sequencerOf, lastState, ranTo, laidOver, Accepted}
 use Rattle.emulator.proofs.Written.{part-written, written, written-take, written-drop, written-length}
 
 -- ---- the run by its parts
 
 -- a stopped machine executes nothing
-pub ran-stopped : (image map recording : List ℕ) (s : State) → (s .stop ≡ 0 → ⊥) → ranOver image map recording s ≡ still s
+pub ran-stopped : (image map recording : List ℕ) (s : State) → (s .stop ≡ 0 → ⊥) → ranOver image map recording s ≡ noStep s
 unfolding ranOver
 ran-stopped image map [] s h = refl
 ran-stopped image map (left ∷ []) s h = refl
 ran-stopped image map (left ∷ right ∷ rest) s h = rw (ne-eqb (s .stop) 0 h)
 
 -- without a pair there is no step
-pub ran-none : (image map recording : List ℕ) (s : State) → length recording < pairLength → ranOver image map recording s ≡ still s
+pub ran-none : (image map recording : List ℕ) (s : State) → length recording < pairLength → ranOver image map recording s ≡ noStep s
 unfolding ranOver
 ran-none image map [] s h = refl
 ran-none image map (left ∷ []) s h = refl
@@ -45,7 +45,7 @@ ran-pair image map left right rest s h = rw (eq-eqb (s .stop) 0 h)
 abbrev pub pairOf : List ℕ → ℕ → List ℕ
 pairOf recording i = getD recording (pairLength * i) 0 ∷ getD recording (pairLength * i + 1) 0 ∷ []
 
-pair-below : (recording : List ℕ) (i : ℕ) → Below 256 recording → Below 256 (pairOf recording i)
+pair-below : (recording : List ℕ) (i : ℕ) → EachBelow 256 recording → EachBelow 256 (pairOf recording i)
 pair-below recording i h zero = h (pairLength * i)
 pair-below recording i h (suc zero) = h (pairLength * i + 1)
 pair-below recording i h (suc (suc k)) = omega arith
@@ -100,7 +100,7 @@ module _ (image map recording start : List ℕ) (s₀ : State) where
       }
 
   -- a step on the way leaves a sound state and a record of four bytes
-  pub goes-sound : (i : ℕ) (s : State) (trace : List ℕ) (o : Outcome) → wordCount image ≤ 8192 → Below 256 image → Below 256 recording
+  pub goes-sound : (i : ℕ) (s : State) (trace : List ℕ) (o : Outcome) → wordCount image ≤ 8192 → EachBelow 256 image → EachBelow 256 recording
       → Going i s trace → o ≡ stepped image map (pairOf recording i) s → SoundOutcome o
   goes-sound i s trace o words bytes pairs g step =
       subst SoundOutcome (sym step) (step-sound image map (pairOf recording i) s words bytes (pair-below recording i pairs) (g .sound))
@@ -146,16 +146,16 @@ module _ (image map recording start : List ℕ) (s₀ : State) where
   room-left i s trace room g h = simp (length-take, length-drop) (omega (arith, g .same))
 
   -- where nothing is left to run, the run is done
-  pub ends : (i : ℕ) (s : State) (trace : List ℕ) → length start ≡ pairCount recording * recordLength → Going i s trace → ranOver image map (drop (pairLength * i) recording) s ≡ still s
-      → record { state = s; count = i; trace = trace } ≡ laid (ranOver image map recording s₀) start
+  pub ends : (i : ℕ) (s : State) (trace : List ℕ) → length start ≡ pairCount recording * recordLength → Going i s trace → ranOver image map (drop (pairLength * i) recording) s ≡ noStep s
+      → record { state = s; count = i; trace = trace } ≡ laidOver (ranOver image map recording s₀) start
   ends i s trace room g none =
       ap (λ (t : List ℕ). record { state = s; count = i; trace = t }) (sym all)
-      ∙ ap (λ (r : Ran). laid r start) (sym (g .runs ∙ ap (further i (take at trace)) none ∙ further-still))
+      ∙ ap (λ (r : Ran). laidOver r start) (sym (g .runs ∙ ap (further i (take at trace)) none ∙ further-still))
     where
       at : ℕ
       at = recordLength * i
 
-      further-still : further i (take at trace) (still s) ≡ record { state = s; count = i; trace = take at trace }
+      further-still : further i (take at trace) (noStep s) ≡ record { state = s; count = i; trace = take at trace }
       further-still =
           ap₂ (λ (n : ℕ) (t : List ℕ). record { state = s; count = n; trace = t }) (add-zero i) (append-nil (take at trace))
 
@@ -168,7 +168,7 @@ module _ (image map recording start : List ℕ) (s₀ : State) where
 
   -- i steps on the way, what the next one leaves, and the part of the trace that it has written
   module _ (i : ℕ) (q : Sequencer) (v l r trace : List ℕ) (e : Effect) (v′ l′ r′ : List ℕ) (door : Accepted image map recording start s₀)
-      (bytes : Below 256 image) (pairs : Below 256 recording) (g : Going i (whole q v l r) trace)
+      (bytes : EachBelow 256 image) (pairs : EachBelow 256 recording) (g : Going i (whole q v l r) trace)
       (step : outcome e v′ l′ r′ ≡ stepped image map (pairOf recording i) (whole q v l r)) where
     sound : SoundOutcome (outcome e v′ l′ r′)
     sound = goes-sound i (whole q v l r) trace (outcome e v′ l′ r′) (door .words) bytes pairs g step
@@ -196,7 +196,7 @@ module _ (image map recording start : List ℕ) (s₀ : State) where
 
       pub stops : (p : Sequencer) → p ≡ sequencerOf e → (e .stop ≡ 0 → ⊥)
           → ranTo (record { q = p; count = i + 1; stop = e .stop }) v′ l′ r′ (putMid (recordLength * i) (length trace - recordLength * i) trace part)
-          ≡ laid (ranOver image map recording s₀) start
+          ≡ laidOver (ranOver image map recording s₀) start
       stops p hp stopped =
           ends (i + 1) (lastState (record { q = p; count = i + 1; stop = e .stop }) v′ l′ r′) back (door .room) (next p (e .stop) hp refl)
           (ran-stopped image map (drop (pairLength * (i + 1)) recording) _ stopped)

@@ -12,21 +12,21 @@ use Rattle.choice.specs.Choice.{firstNo}
 use Rattle.choice.proofs.Laws.{pick-cases, pick-beside, asked-beside}
 use Rattle.map.specs.Map.{mapLength}
 use Rattle.state.specs.declared.State.{State}
-use Rattle.state.specs.State.{Below, loaded, stored, wellFormed}
+use Rattle.state.specs.State.{EachBelow, loaded, stored, wellFormed}
 use Rattle.state.proofs.Laws.{stored-length}
 use Rattle.state.proofs.RoundTrip.{store-then-load}
 use Rattle.state.proofs.WellFormed.{formed}
 use Rattle.machine.specs.Step.{wordCount, Outcome, stepped}
 use Rattle.machine.proofs.Keeps.{Sound, step-sound, record-long}
-use Rattle.emulator.specs.Run.{pairLength, pairCount, recordLength, Ran, still, after, ranOver, imageFits, stateFits, recordingFits, traceFits, doorQuestions, RunResult, refused, ended, runResult}
+use Rattle.emulator.specs.Run.{pairLength, pairCount, recordLength, Ran, noStep, after, ranOver, imageFits, stateFits, recordingFits, traceFits, doorQuestions, RunResult, refused, ended, runResult}
 use Rattle.emulator.proofs.Going.{ran-stopped, ran-pair, further, further-none}
 use Rattle.emulator.proofs.Door.{fits}
 
 -- ---- the pairs of a recording, one by one
 
 module _ (image map : List ℕ) (Q : List ℕ → State → Ran → Type 0)
-    (none : (recording : List ℕ) (s : State) → length recording < pairLength → Q recording s (still s))
-    (idle : (recording : List ℕ) (s : State) → (s .stop ≡ 0 → ⊥) → Q recording s (still s))
+    (none : (recording : List ℕ) (s : State) → length recording < pairLength → Q recording s (noStep s))
+    (idle : (recording : List ℕ) (s : State) → (s .stop ≡ 0 → ⊥) → Q recording s (noStep s))
     (one : (left right : ℕ) (rest : List ℕ) (s : State) (r : Ran) → s .stop ≡ 0
     → Q rest (stepped image map (left ∷ right ∷ []) s .state) r
     → Q (left ∷ right ∷ rest) s (after (stepped image map (left ∷ right ∷ []) s) r)) where
@@ -90,14 +90,14 @@ runs-chain image map first rest = by-pairs image map Chains none idle one first
     Chains part s r =
         length part % pairLength ≡ 0 → ranOver image map (part ++ rest) s ≡ further (r .count) (r .trace) (ranOver image map rest (r .state))
 
-    none : (part : List ℕ) (s : State) → length part < pairLength → Chains part s (still s)
+    none : (part : List ℕ) (s : State) → length part < pairLength → Chains part s (noStep s)
     none [] s h even = sym (further-none (ranOver image map rest s))
     none (left ∷ []) s h even = absurd (omega arith)
     none (left ∷ right ∷ part) s h even = absurd (omega arith)
 
-    idle : (part : List ℕ) (s : State) → (s .stop ≡ 0 → ⊥) → Chains part s (still s)
+    idle : (part : List ℕ) (s : State) → (s .stop ≡ 0 → ⊥) → Chains part s (noStep s)
     idle part s h even =
-        ran-stopped image map (part ++ rest) s h ∙ sym (further-none (still s))
+        ran-stopped image map (part ++ rest) s h ∙ sym (further-none (noStep s))
         ∙ ap (further 0 []) (sym (ran-stopped image map rest s h))
 
     one : (left right : ℕ) (part : List ℕ) (s : State) (r : Ran) → s .stop ≡ 0
@@ -113,18 +113,18 @@ runs-chain image map first rest = by-pairs image map Chains none idle one first
 -- a property that a step of a machine that is not stopped keeps, a run keeps
 pub run-keeps : (image map : List ℕ) (P : State → Type 0)
     → ((left right : ℕ) (s : State) → left < 256 → right < 256 → s .stop ≡ 0 → P s → P (stepped image map (left ∷ right ∷ []) s .state))
-    → (recording : List ℕ) (s : State) → Below 256 recording → P s → P (ranOver image map recording s .state)
+    → (recording : List ℕ) (s : State) → EachBelow 256 recording → P s → P (ranOver image map recording s .state)
 run-keeps image map P step =
-    by-pairs image map (λ recording s r. Below 256 recording → P s → P (r .state)) (λ recording s h b p. p) (λ recording s h b p. p)
+    by-pairs image map (λ recording s r. EachBelow 256 recording → P s → P (r .state)) (λ recording s h b p. p) (λ recording s h b p. p)
     (λ left right rest s r h keeps b p. keeps (λ k. b (suc (suc k))) (step left right s (b 0) (b 1) h p))
 
-two-bytes : {left right : ℕ} → left < 256 → right < 256 → Below 256 (left ∷ right ∷ [])
+two-bytes : {left right : ℕ} → left < 256 → right < 256 → EachBelow 256 (left ∷ right ∷ [])
 two-bytes hl hr zero = hl
 two-bytes hl hr (suc zero) = hr
 two-bytes hl hr (suc (suc k)) = omega arith
 
 -- a run leaves a sound state sound
-pub run-sound : (image map recording : List ℕ) (s : State) → wordCount image ≤ 8192 → Below 256 image → Below 256 recording
+pub run-sound : (image map recording : List ℕ) (s : State) → wordCount image ≤ 8192 → EachBelow 256 image → EachBelow 256 recording
     → Sound s → Sound (ranOver image map recording s .state)
 run-sound image map recording s words bytes =
     run-keeps image map Sound

@@ -46,8 +46,8 @@ abbrev pub ranTo : Last → List ℕ → List ℕ → List ℕ → List ℕ → 
 ranTo last values latches returns trace = record { state = lastState last values latches returns; count = last .count; trace = trace }
 
 -- a run's records laid over a trace's bytes
-abbrev pub laid : Ran → List ℕ → Ran
-laid r trace = record { state = r .state; count = r .count; trace = writtenOver (r .trace) trace }
+abbrev pub laidOver : Ran → List ℕ → Ran
+laidOver r trace = record { state = r .state; count = r .count; trace = writtenOver (r .trace) trace }
 
 -- What the steps of a run need: what the questions at the door ask.
 pub record Accepted (image map recording trace : List ℕ) (s : State) : Type 0 where

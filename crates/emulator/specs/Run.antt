@@ -30,8 +30,8 @@ pub record Ran : Type 0 where
   pub trace : List ℕ
 
 -- no step
-abbrev pub still : State → Ran
-still s = record { state = s; count = 0; trace = [] }
+abbrev pub noStep : State → Ran
+noStep s = record { state = s; count = 0; trace = [] }
 
 -- one step, and what follows it
 abbrev pub after : Outcome → Ran → Ran
@@ -40,12 +40,12 @@ after o r = record { state = r .state; count = suc (r .count); trace = o .trace 
 -- A step for each pair, until the machine stops. "A stopped machine stays so": it executes nothing. "The stopping step
 -- has its record".
 unfoldable pub ranOver : List ℕ → List ℕ → List ℕ → State → Ran
-ranOver image map [] s = still s
-ranOver image map (left ∷ []) s = still s
+ranOver image map [] s = noStep s
+ranOver image map (left ∷ []) s = noStep s
 ranOver image map (left ∷ right ∷ rest) s =
     pick (eqb (s .stop) 0)
     (after (stepped image map (left ∷ right ∷ []) s) (ranOver image map rest (stepped image map (left ∷ right ∷ []) s .state)))
-    (still s)
+    (noStep s)
 
 -- "later trace bytes are untouched"
 abbrev pub writtenOver : List ℕ → List ℕ → List ℕ

@@ -5,7 +5,7 @@ ghost use lib.ListN.{length};
 ghost use Rattle.state.specs.State.{stateLength};
 ghost use Rattle.machine.specs.Parts.{whole};
 ghost use Rattle.emulator.specs.Run.{recordLength, ranOver, writtenOver, imageFits, yielded, ended, runResult};
-ghost use Rattle.emulator.specs.Parts.{traceRecordOf, TraceBytes, sequencerOf, ranTo, laid, Accepted};
+ghost use Rattle.emulator.specs.Parts.{traceRecordOf, TraceBytes, sequencerOf, ranTo, laidOver, Accepted};
 use machine::Effect;
 use machine::Sequencer;
 use state::State;
@@ -63,7 +63,7 @@ fn steps(
     trace: &mut [u8],
 ) -> Last
     requires { ⌜ Accepted (now image) (now map) (now recording) (now trace) (whole start (now values) (now latches) (now returns)) ⌝ }
-    ensures { λ r. ⌜ ranTo r (now (values .exit)) (now (latches .exit)) (now (returns .exit)) (now (trace .exit)) ≡ laid (ranOver (now (image .entry)) (now (map .entry)) (now (recording .entry)) (whole start (now (values .entry)) (now (latches .entry)) (now (returns .entry)))) (now (trace .entry)) ⌝ }
+    ensures { λ r. ⌜ ranTo r (now (values .exit)) (now (latches .exit)) (now (returns .exit)) (now (trace .exit)) ≡ laidOver (ranOver (now (image .entry)) (now (map .entry)) (now (recording .entry)) (whole start (now (values .entry)) (now (latches .entry)) (now (returns .entry)))) (now (trace .entry)) ⌝ }
 {
     let mut q = start;
     let mut count = 0;

@@ -18,14 +18,14 @@ use Rattle.state.proofs.WellFormed.{formed}
 use Rattle.machine.specs.Step.{wordCount, stepQuestions, stepped}
 use Rattle.machine.proofs.Keeps.{step-formed}
 use Rattle.emulator.specs.declared.RunAnswer.the-variants.{Ended}
-use Rattle.emulator.specs.Run.{RunResult, pairCount, imageFits, stateFits, recordingFits, traceFits, ranOver, refused as refusedRun, ended, runResult}
+use Rattle.emulator.specs.Run.{RunResult, pairCount, imageFits, stateFits, recordingFits, traceFits, ranOver, refused, ended, runResult}
 use Rattle.flow.specs.Flow.{Closed}
 use Rattle.facts.specs.Record.{resetCell}
 use Rattle.transfer.specs.Passes.{tableSpace, leastTable}
 use Rattle.transfer.specs.Findings.{NoFinding}
 use Rattle.transfer.proofs.TableLaws.{least-table}
 use Rattle.guarantee.specs.Safe.{Safe}
-use Rattle.guarantee.specs.Demand.{Bytes, Job, Steps, ends, goes, Fault, odd, short, Flawless, finished, executes, refused, Demand}
+use Rattle.guarantee.specs.Demand.{Bytes, Job, Steps, ends, goes, Fault, odd, short, Flawless, finished, executes, turnedAway, Demand}
 use Rattle.guarantee.proofs.StepSafe.{step-safe}
 use Rattle.guarantee.proofs.ResetSafe.{reset-safe}
 
@@ -94,8 +94,8 @@ module _ (image map table : List ℕ) (bytes : Bytes image) (fits : imageFits im
   -- the run past the first three questions
   past-door : (s : State) (job : Job) → Safe image table s → runResult image map (stored s) (job .recording) (job .trace)
       ≡ pick (recordingFits (job .recording))
-      (pick (traceFits (job .recording) (job .trace)) (ended (job .trace) (ranOver image map (job .recording) s)) (refusedRun (stored s) (job .trace) 16))
-      (refusedRun (stored s) (job .trace) 15)
+      (pick (traceFits (job .recording) (job .trace)) (ended (job .trace) (ranOver image map (job .recording) s)) (refused (stored s) (job .trace) 16))
+      (refused (stored s) (job .trace) 15)
   unfolding runResult
   past-door s job safe = rw (fits, eq-eqb (length map) mapLength long, state-fits s safe, store-then-load s (safe .sized))
 
@@ -103,10 +103,10 @@ module _ (image map table : List ℕ) (bytes : Bytes image) (fits : imageFits im
     run : RunResult
     run = runResult image map (stored s) (job .recording) (job .trace)
 
-    away : (number : ℕ) → Fault job number → run ≡ refusedRun (stored s) (job .trace) number → Flawless image map table (stored s) jobs → Flawless image map table (stored s) (job ∷ jobs)
+    away : (number : ℕ) → Fault job number → run ≡ refused (stored s) (job .trace) number → Flawless image map table (stored s) jobs → Flawless image map table (stored s) (job ∷ jobs)
     unfolding run
     away number fault e rest =
-        refused {job = job}
+        turnedAway {job = job}
         (record { number = number; fault = fault; answer = ap (λ (r : RunResult). r .answer) e; state = ap (λ (r : RunResult). r .state) e; trace = ap (λ (r : RunResult). r .trace) e })
         (subst⁻¹ (λ (b : List ℕ). Flawless image map table b jobs) (ap (λ (r : RunResult). r .state) e) rest)
 

@@ -47,7 +47,7 @@ given-word : (image : List ℕ) (pc : ℕ) (facts : List ℕ) (source : Source) 
     → gives page i (spanOf source facts) k ≡ true → canBeExecuted image (pageAddress page pc k) ≡ true
     → In (shapeAt image (pageAddress page pc k)) (wordsAt image pc facts (go source (defer page i)))
 unfolding wordsAt
-given-word image pc facts source page i k inPage given can =
+given-word image pc facts source page i k place given can =
     in-over 0 page _ (λ k. shapeAt image (pageAddress page pc k) ∷ []) k (omega arith) (omega arith) (and-both given can) first
 
 -- an XEC by its parts; it passes nothing on
@@ -134,7 +134,7 @@ module _ (image map table : List ℕ) (depth pc : ℕ)
           }
 
   -- a word that the XEC at PC executes: it is below N and licensed
-  module _ (source : Source) (page i k : ℕ) (xec : shapeAt image pc ≡ go source (defer page i)) (inPage : k < page)
+  module _ (source : Source) (page i k : ℕ) (xec : shapeAt image pc ≡ go source (defer page i)) (place : k < page)
       (given : gives page i (spanOf source facts) k ≡ true) where
     abbrev address : ℕ
     address = pageAddress page pc k
@@ -157,6 +157,6 @@ module _ (image map table : List ℕ) (depth pc : ℕ)
           ltb-true address (wordCount image) near,
           member-licensed (shapeAt image address)
               (subst (λ w. In (shapeAt image address) (wordsAt image pc facts w)) (sym xec)
-              (given-word image pc facts source page i k inPage given (and-both near plain)))
+              (given-word image pc facts source page i k place given (and-both near plain)))
               (not-true (isDefer (shapeAt image address)) plain) fits e,
         )

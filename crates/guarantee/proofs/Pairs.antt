@@ -11,7 +11,7 @@ use Rattle.choice.specs.Choice.{pick}
 use Rattle.choice.proofs.Laws.{pick-cases, pick-beside, and-both, and-first, and-second, or-cases}
 use Rattle.field.specs.Field.{rotateRight, widthOf, fieldOf, carryOf}
 use Rattle.field.proofs.Laws.{rotate-lt, field-width}
-use Rattle.state.specs.State.{overflowSlot, Below}
+use Rattle.state.specs.State.{overflowSlot, EachBelow}
 use Rattle.machine.specs.Shape.{Source, register, bank, constant, Target, slot, latch}
 use Rattle.machine.specs.Step.{valueOf, resultOf, withOverflow, putValue}
 use Rattle.facts.specs.Facts.{unknown, isKnown, allows, within, sourceFact, resultFact, carryFact, withCarryFact, putFact, factsAfter, Span, factSpan, spanOf, holds}
@@ -40,7 +40,7 @@ fact-span-holds f v a h =
     (λ k. subst (λ n. holds (record { low = n; count = 1 }) v ≡ true) (sym (known-same f v k a)) (holds-one v))
     (λ k. and-both (le-leb 0 v (omega arith)) (lt-ltb v (0 + 256) (omega arith)))
 
-pub span-holds : (source : Source) (facts values bus : List ℕ) → SourceInRange source → Below 256 values → within facts values ≡ true
+pub span-holds : (source : Source) (facts values bus : List ℕ) → SourceInRange source → EachBelow 256 values → within facts values ≡ true
     → holds (spanOf source facts) (valueOf source values bus) ≡ true
 span-holds (register k places) facts values bus fits below h =
     fact-span-holds (sourceFact (register k places) facts) (rotateRight places (getD values k 0))

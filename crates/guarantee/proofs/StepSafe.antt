@@ -49,7 +49,7 @@ module _ (image map table : List ℕ) (closed : Closed (tableSpace image) resetC
       pending g =
           let w =
           executed-licensed image map table (s .depth) (s .pc) (safe .inside .reached) cell
-          (g .source) (g .page) (g .i) (g .k) (g .isXec) (g .inPage) (g .given)
+          (g .source) (g .page) (g .i) (g .k) (g .isXec) (g .place) (g .given)
           (shape-at-in-range image bytes (pageAddress (g .page) (s .pc) (g .k)))
           in
           subst (Fetched s) (sym (g .address)) record { near = w .0; licensed = w .1 }

@@ -159,7 +159,7 @@ module _ (image map table bus : List ℕ) (s : State) (safe : Safe image table s
           i = i;
           k = (i + valueOf source (s .values) bus) % page;
           isXec = allowed .here refl;
-          inPage = mod-lt _ (room .some);
+          place = mod-lt _ (room .some);
           given = gives-place page i (spanOf source facts) (valueOf source (s .values) bus) (room .some)
               (room .enough facts) (holding source (allowed .fits .0));
           address = refl;
@@ -180,7 +180,7 @@ module _ (image map table bus : List ℕ) (s : State) (safe : Safe image table s
         site = s .pc;
         inCode = safe .inside .near;
         calls = calls;
-        after = getD-set-same (s .returns) (s .depth) (s .pc + 1) 0 (omega (arith, safe .sized .returnsLength));
+        next = getD-set-same (s .returns) (s .depth) (s .pc + 1) 0 (omega (arith, safe .sized .returnsLength));
       })
       (λ other. kept-place (s .depth) (s .pc + 1) k other (omega arith))
 
@@ -240,8 +240,8 @@ module _ (image map table bus : List ℕ) (s : State) (safe : Safe image table s
           record {
             running = safe .running;
             inside = arrives image table facts (goTo (getD (s .returns) place 0) place (set (s .returns) place 0) s)
-                (omega (arith, safe .inside .depth)) (omega (arith, popped .after))
-                (subst (λ a. Each (Held table) (toward (wordCount image) place a facts)) (sym (popped .after)) held)
+                (omega (arith, safe .inside .depth)) (omega (arith, popped .next))
+                (subst (λ a. Each (Held table) (toward (wordCount image) place a facts)) (sym (popped .next)) held)
                 (safe .inside .agrees);
             stack = λ k less. kept-place place 0 k (λ e. omega arith) (omega arith);
             pending = λ h. absurd (omega arith);

@@ -62,7 +62,7 @@ pub data Flawless (image map table : List ℕ) : List ℕ → List Job → Type 
   executes : {state : List ℕ} {job : Job} {jobs : List Job} → Executes image map table state job
       → Flawless image map table (runResult image map state (job .recording) (job .trace) .state) jobs
       → Flawless image map table state (job ∷ jobs)
-  refused : {state : List ℕ} {job : Job} {jobs : List Job} → TurnedAway image map state job
+  turnedAway : {state : List ℕ} {job : Job} {jobs : List Job} → TurnedAway image map state job
       → Flawless image map table (runResult image map state (job .recording) (job .trace) .state) jobs
       → Flawless image map table state (job ∷ jobs)
 

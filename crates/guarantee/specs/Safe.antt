@@ -28,7 +28,7 @@ pub record Returns (image table : List ℕ) (place address : ℕ) : Type 0 where
   pub site : ℕ
   pub inCode : site < wordCount image
   pub calls : isCallSite image table place site ≡ true
-  pub after : address ≡ site + 1
+  pub next : address ≡ site + 1
 
 -- a pending address: one that the XEC at PC may give with the facts there
 pub record Given (image table : List ℕ) (s : State) : Type 0 where
@@ -37,7 +37,7 @@ pub record Given (image table : List ℕ) (s : State) : Type 0 where
   pub i : ℕ
   pub k : ℕ
   pub isXec : shapeAt image (s .pc) ≡ go source (defer page i)
-  pub inPage : k < page
+  pub place : k < page
   pub given : gives page i (spanOf source (cellAt table (cellIndex image s) .facts)) k ≡ true
   pub address : s .pending ≡ pageAddress page (s .pc) k
 

@@ -13,7 +13,7 @@ use Rattle.word.specs.declared.Word.the-variants.{Move, Add, And, Xor, XecRegis
 use Rattle.word.specs.Word.{isBank, isRegisterTarget, isTarget, ActInRange, InRange, decoded}
 use Rattle.word.proofs.Laws.{bank-range, decoded-in-range}
 use Rattle.field.specs.Field.{widthOf}
-use Rattle.state.specs.State.{overflowSlot, Below}
+use Rattle.state.specs.State.{overflowSlot, EachBelow}
 use Rattle.machine.specs.Shape.{Source, register, bank, constant, Target, slot, latch, Control, jump, branch, defer, call, return, Shape, act, go, invalid}
 use Rattle.machine.specs.Shape.{slotOf, sourceOf, targetOf, placesOf, actShape, shapeOf}
 use Rattle.machine.specs.Step.{wordAt, shapeAt}
@@ -131,6 +131,6 @@ shape-in-range (Jmp a) h = (omega arith, h)
 shape-in-range Invalid h = tt
 
 -- the shape at an address of an image of bytes
-pub shape-at-in-range : (image : List ℕ) → Below 256 image → (a : ℕ) → ShapeInRange (shapeAt image a)
+pub shape-at-in-range : (image : List ℕ) → EachBelow 256 image → (a : ℕ) → ShapeInRange (shapeAt image a)
 shape-at-in-range image h a =
     shape-in-range (decoded (wordAt image a)) (decoded-in-range (wordAt image a) (omega (arith, h (2 * a), h (2 * a + 1))))

@@ -16,7 +16,7 @@ use Rattle.choice.proofs.Laws.{pick-both, pick-cases, asked-holds, asked-beside
 use Rattle.field.specs.Field.{carryOf, mergeInto}
 use Rattle.field.proofs.Laws.{rotate-lt, field-lt, merge-lt, sum-lt, carry-lt, and-byte, xor-byte}
 use Rattle.state.specs.declared.State.{State}
-use Rattle.state.specs.State.{overflowSlot, stackPlaces, Below, Sized, Formed}
+use Rattle.state.specs.State.{overflowSlot, stackPlaces, EachBelow, Sized, Formed}
 use Rattle.machine.specs.Shape.{Source, register, bank, constant, Target, slot, latch, Control, jump, branch, defer, call, return, Shape, act, go, invalid}
 use Rattle.machine.specs.Step.{wordCount, shapeAt, valueOf, resultOf, withOverflow, putValue, putLatch, inPage, actState, goTo, deferTo, goState, executed}
 use Rattle.machine.specs.Step.{mayRead, mayWrite, mayChoose, mayCall, mayReturn, wordQuestions, fetchAddress, stepQuestions, stopped, Outcome, targetTrace, traceOf, cameToStop, wordStep, stepped}
@@ -34,10 +34,10 @@ set-keeps P (x ∷ xs) zero v (suc k) h hv = h
 set-keeps P (x ∷ xs) (suc i) v zero h hv = h
 set-keeps P (x ∷ xs) (suc i) v (suc k) h hv = set-keeps P xs i v k h hv
 
-set-below : {n : ℕ} (xs : List ℕ) (i : ℕ) {v : ℕ} → Below n xs → v < n → Below n (set xs i v)
+set-below : {n : ℕ} (xs : List ℕ) (i : ℕ) {v : ℕ} → EachBelow n xs → v < n → EachBelow n (set xs i v)
 set-below {n} xs i {v} h hv k = set-keeps (λ (x : ℕ). x < n) xs i v k (h k) hv
 
-four-bytes : {a b c d : ℕ} → a < 256 → b < 256 → c < 256 → d < 256 → Below 256 (a ∷ b ∷ c ∷ d ∷ [])
+four-bytes : {a b c d : ℕ} → a < 256 → b < 256 → c < 256 → d < 256 → EachBelow 256 (a ∷ b ∷ c ∷ d ∷ [])
 four-bytes ha hb hc hd zero = ha
 four-bytes ha hb hc hd (suc zero) = hb
 four-bytes ha hb hc hd (suc (suc zero)) = hc
@@ -46,7 +46,7 @@ four-bytes ha hb hc hd (suc (suc (suc (suc k)))) = omega arith
 
 -- ---- sources, results and pages
 
-pub value-lt : (source : Source) (values bus : List ℕ) → SourceInRange source → Below 256 values → Below 256 bus
+pub value-lt : (source : Source) (values bus : List ℕ) → SourceInRange source → EachBelow 256 values → EachBelow 256 bus
     → valueOf source values bus < 256
 value-lt (register k places) values bus h hv hb = rotate-lt places (h .1) (hv k)
 value-lt (bank b p l) values bus h hv hb = field-lt p l (hb b)
@@ -71,9 +71,9 @@ page-lt page pc x h near = either (ℕ-discrete page 256)
 -- ---- an act's values
 
 module _ (op : ℕ) {aux x : ℕ} (ha : aux < 256) (hx : x < 256) (values : List ℕ) where
-  carried-below : Below 256 values → Below 256 (withOverflow op aux x values)
+  carried-below : EachBelow 256 values → EachBelow 256 (withOverflow op aux x values)
   unfolding withOverflow
-  carried-below h = pick-both (Below 256) (eqb op 1) (set-below values overflowSlot h (omega (arith, carry-lt ha hx))) h
+  carried-below h = pick-both (EachBelow 256) (eqb op 1) (set-below values overflowSlot h (omega (arith, carry-lt ha hx))) h
 
   carried-overflow : getD values overflowSlot 0 < 2 → getD (withOverflow op aux x values) overflowSlot 0 < 2
   unfolding withOverflow
@@ -86,7 +86,7 @@ unfolding withOverflow
 carried-length op aux x values =
     pick-both (λ (v : List ℕ). length v ≡ length values) (eqb op 1) (length-set values overflowSlot (carryOf aux x)) refl
 
-put-below : (target : Target) {result : ℕ} (values : List ℕ) → result < 256 → Below 256 values → Below 256 (putValue target result values)
+put-below : (target : Target) {result : ℕ} (values : List ℕ) → result < 256 → EachBelow 256 values → EachBelow 256 (putValue target result values)
 put-below (slot k) values hr h = set-below values k h hr
 put-below (latch b p l) values hr h = h
 
@@ -99,7 +99,7 @@ put-length : (target : Target) (result : ℕ) (values : List ℕ) → length (pu
 put-length (slot k) result values = length-set values k result
 put-length (latch b p l) result values = refl
 
-latch-below : (target : Target) (result : ℕ) (latches : List ℕ) → TargetInRange target → Below 256 latches → Below 256 (putLatch target result latches)
+latch-below : (target : Target) (result : ℕ) (latches : List ℕ) → TargetInRange target → EachBelow 256 latches → EachBelow 256 (putLatch target result latches)
 latch-below (slot k) result latches r h = h
 latch-below (latch b p l) result latches r h = set-below latches b h (merge-lt p l result (r .1) (h b))
 
@@ -149,7 +149,7 @@ module _ (s : State) (sound : Sound s) (near : s .pc < 8192) where
       }
 
   -- on at another PC, with another call stack
-  go-sound : (pc depth : ℕ) (returns : List ℕ) → pc < 65536 → depth ≤ stackPlaces → Below 65536 returns → length returns ≡ stackPlaces
+  go-sound : (pc depth : ℕ) (returns : List ℕ) → pc < 65536 → depth ≤ stackPlaces → EachBelow 65536 returns → length returns ≡ stackPlaces
       → ((k : ℕ) → k < depth → getD returns k 0 ≤ 8192) → ((k : ℕ) → k < stackPlaces → depth ≤ k → getD returns k 0 ≡ 0)
       → Sound (goTo pc depth returns s)
   go-sound pc depth returns hp hd hr hl used free =
@@ -308,7 +308,7 @@ record-long image map bus s =
 -- a sound state and a trace record of four bytes
 pub record SoundOutcome (o : Outcome) : Type 0 where
   pub state : Sound (o .state)
-  pub bytes : Below 256 (o .trace)
+  pub bytes : EachBelow 256 (o .trace)
   pub long : length (o .trace) ≡ 4
 
 stopped-outcome : (s : State) (number : ℕ) → Sound s → 21 ≤ number → number ≤ 27 → SoundOutcome (cameToStop s number)
@@ -343,7 +343,7 @@ target-outcome (latch b p l) s r sound =
       long = refl;
     }
 
-pub word-sound : (map : List ℕ) (shape : Shape) (bus : List ℕ) (s : State) → ShapeInRange shape → Below 256 bus → Sound s → s .pc < 8192
+pub word-sound : (map : List ℕ) (shape : Shape) (bus : List ℕ) (s : State) → ShapeInRange shape → EachBelow 256 bus → Sound s → s .pc < 8192
     → SoundOutcome (wordStep map shape bus s)
 word-sound map (act source op target) bus s r hb sound near =
     let x = value-lt source (s .values) bus (r .0) (sound .sized .values) hb in
@@ -369,7 +369,7 @@ word-sound map invalid bus s r hb sound near = stopped-outcome s 22 sound (omega
 pub fetched-near : (s : State) {words : ℕ} → Formed s → words ≤ 8192 → fetchAddress s < words → s .pc < 8192
 fetched-near s f hw h = pc-near (s .flag) (s .pending) (s .pc) (omega arith) (f .pc)
 
-pub step-sound : (image map bus : List ℕ) (s : State) → wordCount image ≤ 8192 → Below 256 image → Below 256 bus → Sound s
+pub step-sound : (image map bus : List ℕ) (s : State) → wordCount image ≤ 8192 → EachBelow 256 image → EachBelow 256 bus → Sound s
     → SoundOutcome (stepped image map bus s)
 unfolding stepped
 step-sound image map bus s hw hi hb sound =
@@ -385,7 +385,7 @@ unfolding stepped
 step-word image map bus s h = rw (lt-ltb (fetchAddress s) (wordCount image) h)
 
 -- a step keeps a state well formed and its numbers to their bytes
-pub step-formed : (image map bus : List ℕ) (s : State) → wordCount image ≤ 8192 → Below 256 image → Below 256 bus → Formed s → Sized s
+pub step-formed : (image map bus : List ℕ) (s : State) → wordCount image ≤ 8192 → EachBelow 256 image → EachBelow 256 bus → Formed s → Sized s
     → Formed (stepped image map bus s .state) × Sized (stepped image map bus s .state)
 step-formed image map bus s hw hi hb f z =
     let o = step-sound image map bus s hw hi hb (record { formed = f; sized = z }) in

@@ -7,7 +7,7 @@ use lib.ListN.{length, getD, drop, replicate, drop-of-length-le}
 use lib.Seq.{drop-cons}
 use Rattle.state.specs.declared.State.{State}
 use Rattle.state.specs.State.{stateLength, bytesFrom, numbersFrom, pairsFrom, twoBytes, loaded, stored}
-use Rattle.state.specs.State.{Below, Sized, resetBytes, zeroState}
+use Rattle.state.specs.State.{EachBelow, Sized, resetBytes, zeroState}
 use Rattle.state.proofs.Laws.{by-fields}
 
 -- ---- a number and its two bytes
@@ -37,9 +37,9 @@ whole b n h = rest b 0 n (omega arith)
 
 -- ---- lists of small numbers
 
--- `Below`, as a record: its list is found from its proof
+-- `EachBelow`, as a record: its list is found from its proof
 record Small (n : ℕ) (xs : List ℕ) : Type 0 where
-  at : Below n xs
+  at : EachBelow n xs
 
 none : {n : ℕ} → 0 < n → Small n []
 none h = record { at = λ k. h }
@@ -47,7 +47,7 @@ none h = record { at = λ k. h }
 more : {n x : ℕ} {xs : List ℕ} → x < n → Small n xs → Small n (x ∷ xs)
 more {n} {x} {xs} h t = record { at = each }
   where
-    each : Below n (x ∷ xs)
+    each : EachBelow n (x ∷ xs)
     each zero = h
     each (suc k) = t .at k
 
@@ -59,11 +59,11 @@ zeros : (n m : ℕ) → 0 < n → Small n (replicate m 0)
 zeros n zero h = none h
 zeros n (suc m) h = more h (zeros n m h)
 
-bytes : (b : List ℕ) (at m : ℕ) → Below 256 b → Small 256 (bytesFrom b at m)
+bytes : (b : List ℕ) (at m : ℕ) → EachBelow 256 b → Small 256 (bytesFrom b at m)
 bytes b at zero h = none (omega arith)
 bytes b at (suc m) h = more (h at) (bytes b (suc at) m h)
 
-numbers : (b : List ℕ) (at m : ℕ) → Below 256 b → Small 65536 (numbersFrom b at m)
+numbers : (b : List ℕ) (at m : ℕ) → EachBelow 256 b → Small 65536 (numbersFrom b at m)
 numbers b at zero h = none (omega arith)
 numbers b at (suc m) h = more (omega (arith, h at, h (suc at))) (numbers b (suc (suc at)) m h)
 
@@ -79,7 +79,7 @@ pairs ns at (suc m) = more (omega arith) (more (omega arith) (pairs ns (suc at) 
 
 -- ---- loaded, then stored
 
-module _ (b : List ℕ) (small : Below 256 b) where
+module _ (b : List ℕ) (small : EachBelow 256 b) where
   low-at : (i j : ℕ) → (getD b i 0 + 256 * getD b j 0) % 256 ≡ getD b i 0
   low-at i j = low-byte (getD b i 0) (getD b j 0) (small i)
 
@@ -112,7 +112,7 @@ loaded-sized b len small =
 
 -- ---- stored, then loaded
 
-number-at : (ns : List ℕ) → Below 65536 ns → (i : ℕ) → getD ns i 0 % 256 + 256 * (getD ns i 0 / 256 % 256) ≡ getD ns i 0
+number-at : (ns : List ℕ) → EachBelow 65536 ns → (i : ℕ) → getD ns i 0 % 256 + 256 * (getD ns i 0 / 256 % 256) ≡ getD ns i 0
 number-at ns small i = two-bytes (getD ns i 0) (small i)
 
 pub store-then-load : (s : State) → Sized s → loaded (stored s) ≡ s

@@ -70,18 +70,18 @@ stored s =
     (s .depth % 256 ∷ []) ++ pairsFrom (s .returns) 0 8 ++ (s .stop % 256 ∷ [])
 
 -- each number of a list is below n
-abbrev pub Below : ℕ → List ℕ → Type 0
-Below n numbers = (k : ℕ) → getD numbers k 0 < n
+abbrev pub EachBelow : ℕ → List ℕ → Type 0
+EachBelow n numbers = (k : ℕ) → getD numbers k 0 < n
 
 -- numbers that fit their bytes, lists of their lengths
 pub record Sized (s : State) : Type 0 where
   pub pc : s .pc < 65536
   pub flag : s .flag < 256
   pub pending : s .pending < 65536
-  pub values : Below 256 (s .values)
-  pub latches : Below 256 (s .latches)
+  pub values : EachBelow 256 (s .values)
+  pub latches : EachBelow 256 (s .latches)
   pub depth : s .depth < 256
-  pub returns : Below 65536 (s .returns)
+  pub returns : EachBelow 65536 (s .returns)
   pub stop : s .stop < 256
   pub valuesLength : length (s .values) ≡ 11
   pub latchesLength : length (s .latches) ≡ 2

@@ -3,7 +3,7 @@ use mathlib.Core.Path.{ap, sym, subst, _∙_}
 use denote.Ref.{now}
 use Rattle.state.specs.declared.State.{State}
 use Rattle.emulator.specs.Run.{ranOver}
-use Rattle.emulator.specs.Parts.{laid, Accepted}
+use Rattle.emulator.specs.Parts.{laidOver, Accepted}
 use Rattle.emulator.proofs.Door.{running, finished}
 use borrow.Author.Needs.{needs}
 use Rattle.emulator.proofs.run_from.Statement.{statement}
@@ -21,7 +21,7 @@ returns c =
     let o = c .before .before .before .before .before .before .before .steps in
     let ran = ranOver (now (s .args .image)) (now (s .args .map)) (now (s .args .recording)) in
     finished (o .result) _ _ _ _ _ (now (s .args .trace)) (ran (s .args .s))
-    (o .ensures ∙ ap (λ (x : State). laid (ran x) (now (s .args .trace))) (running (s .args .s) (s .pre .1)))
+    (o .ensures ∙ ap (λ (x : State). laidOver (ran x) (now (s .args .trace))) (running (s .args .s) (s .pre .1)))
     (c .before .before .store .ensures)
 
 pub run-from-spec : {M : Type 1} → statement M
