@@ -10,6 +10,7 @@ use lib.Arith.{digits-lt, digits-div, digits-mod}
 use lib.Dec.{ltb, eqb}
 use borrow.Author.Tests.{ltb-true, ltb-false, lt-ltb, le-ltb, eqb-true, eqb-false, eq-eqb, ne-eqb}
 use Rattle.choice.specs.Choice.{pick}
+use Rattle.choice.proofs.Laws.{pick-cases}
 use Rattle.machine.specs.Step.{wordCount}
 use Rattle.facts.specs.Record.{depths}
 use Rattle.transfer.specs.Passes.{pointAt}
@@ -46,6 +47,14 @@ module _ (image map table : List ℕ) where
   first-here i e h z =
       first-rest i e h
       ∙ ap (λ b. pick b (firstFinding image map table (i + 1) (e - (i + 1))) i) (ne-eqb (findingAt image map table i) 0 z)
+
+  -- the cell that is named has a finding
+  pub first-found : (i n : ℕ) → firstFinding image map table i n < i + n → findingAt image map table (firstFinding image map table i n) ≡ 0 → ⊥
+  unfolding firstFinding
+  first-found i zero l = absurd (omega arith)
+  first-found i (suc n) l =
+      pick-cases (λ (j : ℕ). j < i + suc n → findingAt image map table j ≡ 0 → ⊥) (eqb (findingAt image map table i) 0)
+      (λ e m. first-found (suc i) n (omega arith)) (λ e m. eqb-false (findingAt image map table i) 0 e) l
 
   -- ---- the answer at a cell, and past the last
 

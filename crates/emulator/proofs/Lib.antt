@@ -3,3 +3,4 @@ pub mod Going
 pub mod Door
 pub mod Laws
 pub mod Values
+pub mod Range

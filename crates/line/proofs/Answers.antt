@@ -50,5 +50,5 @@ module _ (image map : List ℕ) {r : AdmitAnswer} (e : r ≡ verdictOf image map
 
   pub small-found : {n d a : ℕ} → length image ≤ 800 → r ≡ Found n d a → (n < 1000) × (d < 1000) × (a < 1000)
   small-found {n} {d} {a} most f =
-      let t : (n < 30) × (d < depths) × (a < wordCount image) = subst (Told (wordCount image)) (sym e ∙ f) (verdict-told image map (leastTable image)) in
-      (omega (arith, t .0), omega (arith, t .1), omega (arith, t .2))
+      let t : (21 ≤ n) × (n < 30) × (d < depths) × (a < wordCount image) = subst (Told (wordCount image)) (sym e ∙ f) (verdict-told image map (leastTable image)) in
+      (omega (arith, t .1), omega (arith, t .2), omega (arith, t .3))

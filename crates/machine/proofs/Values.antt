@@ -1,15 +1,16 @@
 -- The starred values of "Values to hold against" in document 01, as one list over the definitions.
--- State not named is as after reset, and every map bit is one.
+-- State not named is as after reset, and every map bit is one. Each word is the last of an image whose other words are
+-- 0xE3FF, so that byte order, fetch and question 1 are in it.
 use mathlib.Core.Path.{_≡_, refl}
-use mathlib.Core.List.{List, [], _∷_}
-use Prim.Native.Nat.{ℕ, _-_}
+use mathlib.Core.List.{List, [], _∷_, _++_}
+use Prim.Native.Nat.{ℕ, zero, suc, _/_, _%_}
 use lib.ListN.{getD, set, replicate}
 use Rattle.field.specs.Field.{rotateRight, lowBits, fieldOf, mergeInto}
 use Rattle.word.specs.Word.{decoded}
 use Rattle.map.specs.Map.{inSet}
 use Rattle.state.specs.declared.State.{State}
 use Rattle.machine.specs.Shape.{shapeOf, slotOf}
-use Rattle.machine.specs.Step.{Outcome, wordStep, resultOf, withOverflow, actState, goState}
+use Rattle.machine.specs.Step.{Outcome, resultOf, withOverflow, actState, goState, stepped}
 
 -- a state after reset but for PC, values and latches
 at : ℕ → List ℕ → List ℕ → State
@@ -35,36 +36,46 @@ none = 0 ∷ 0 ∷ []
 open-map : List ℕ
 open-map = replicate 128 255
 
-run-word : ℕ → List ℕ → State → Outcome
-run-word w bus s = wordStep open-map (shapeOf (decoded w)) bus s
+-- n times the bytes of a jump
+jumps : ℕ → List ℕ
+jumps zero = []
+jumps (suc n) = 0xE3 ∷ 0xFF ∷ jumps n
 
--- AUX afterwards; OVF; the trace's data byte; the left latch; PC; the newest return address; pending address; stop
+-- a step with the word at PC
+step-of : ℕ → List ℕ → State → Outcome
+step-of w bus s = stepped (jumps (s .pc) ++ w / 256 ∷ w % 256 ∷ []) open-map bus s
+
+-- AUX and OVF afterwards
 aux : Outcome → ℕ
 aux o = getD (o .state .values) 0 0
 
 overflow : Outcome → ℕ
 overflow o = getD (o .state .values) 8 0
 
--- "writes": the trace's data byte, and the latch
-writes : ℕ → Outcome → List ℕ
-writes bank o = getD (o .trace) 2 0 ∷ getD (o .state .latches) bank 0 ∷ []
+-- "writes": the left latch, and the trace's kind and data byte
+writes : Outcome → List ℕ
+writes o = getD (o .state .latches) 0 0 ∷ getD (o .trace) 0 0 ∷ getD (o .trace) 2 0 ∷ []
+
+-- PC, pending flag and pending address; depth and the oldest return address
+directs : Outcome → List ℕ
+directs o = o .state .pc ∷ o .state .flag ∷ o .state .pending ∷ o .state .depth ∷ getD (o .state .returns) 0 0 ∷ []
 
 pub starred : List (List ℕ)
 starred =
-    (aux (run-word 0x0140 none (at 0 (set zeros 1 0x96) none)) ∷ []) ∷
-    writes 0 (run-word 0x0975 none (at 0 (set zeros 7 0xD8) (0xEF ∷ 0 ∷ []))) ∷
-    (aux (run-word 0x2000 none (at 0 (set zeros 0 200) none)) ∷ overflow (run-word 0x2000 none (at 0 (set zeros 0 200) none)) ∷ []) ∷
-    (overflow (run-word 0x2993 none (at 0 (set (set zeros 0 1) 7 255) none)) ∷ writes 0 (run-word 0x2993 none (at 0 (set (set zeros 0 1) 7 255) none))) ∷
-    (run-word 0x9476 (0x38 ∷ 0 ∷ []) (at 64 zeros none) .state .pending ∷ []) ∷
-    (run-word 0xA734 none (at 3 (set zeros 0 0x12) none) .state .pc ∷ getD (run-word 0xA734 none (at 3 (set zeros 0 0x12) none) .state .returns) 0 0 ∷ []) ∷
-    writes 0 (run-word 0xD586 none (at 0 zeros (0xFF ∷ 0 ∷ []))) ∷
-    writes 0 (run-word 0xD71F none (at 0 zeros (0xFF ∷ 0 ∷ []))) ∷
-    writes 0 (run-word 0xD1BF none (at 0 zeros (0x3F ∷ 0 ∷ []))) ∷
-    (run-word 0xA632 none (at 1108 (set zeros 6 1) none) .state .pc ∷ []) ∷
-    (run-word 0x0008 none (at 0 zeros none) .state .stop ∷ []) ∷ []
+    (aux (step-of 0x0140 none (at 0 (set zeros 1 0x96) none)) ∷ []) ∷
+    writes (step-of 0x0975 none (at 0 (set zeros 7 0xD8) (0xEF ∷ 0 ∷ []))) ∷
+    (let o = step-of 0x2000 none (at 0 (set zeros 0 200) none) in aux o ∷ overflow o ∷ []) ∷
+    (let o = step-of 0x2993 none (at 0 (set (set zeros 0 1) 7 255) none) in overflow o ∷ writes o) ∷
+    directs (step-of 0x9476 (0x38 ∷ 0 ∷ []) (at 64 zeros none)) ∷
+    directs (step-of 0xA734 none (at 3 (set zeros 0 0x12) none)) ∷
+    writes (step-of 0xD586 none (at 0 zeros (0xFF ∷ 0 ∷ []))) ∷
+    writes (step-of 0xD71F none (at 0 zeros (0xFF ∷ 0 ∷ []))) ∷
+    writes (step-of 0xD1BF none (at 0 zeros (0x3F ∷ 0 ∷ []))) ∷
+    directs (step-of 0xA632 none (at 1108 (set zeros 6 1) none)) ∷
+    (step-of 0x0008 none (at 0 zeros none) .state .stop ∷ []) ∷ []
 
 pub starred-values : starred ≡
-    (0xA5 ∷ []) ∷ (0xE3 ∷ 0xE3 ∷ []) ∷ (144 ∷ 1 ∷ []) ∷ (1 ∷ 0 ∷ 0 ∷ []) ∷ (93 ∷ []) ∷ (4660 ∷ 4 ∷ []) ∷
-    (0xDB ∷ 0xDB ∷ []) ∷ (0x1F ∷ 0x1F ∷ []) ∷ (0xFF ∷ 0xFF ∷ []) ∷ (1074 ∷ []) ∷ (22 ∷ []) ∷ []
-unfolding starred run-word at zeros none open-map aux overflow writes rotateRight lowBits fieldOf mergeInto decoded inSet shapeOf slotOf resultOf withOverflow actState goState
+    (0xA5 ∷ []) ∷ (0xE3 ∷ 3 ∷ 0xE3 ∷ []) ∷ (144 ∷ 1 ∷ []) ∷ (1 ∷ 0 ∷ 3 ∷ 0 ∷ []) ∷ (64 ∷ 1 ∷ 93 ∷ 0 ∷ 0 ∷ []) ∷ (4660 ∷ 0 ∷ 0 ∷ 1 ∷ 4 ∷ []) ∷
+    (0xDB ∷ 3 ∷ 0xDB ∷ []) ∷ (0x1F ∷ 3 ∷ 0x1F ∷ []) ∷ (0xFF ∷ 3 ∷ 0xFF ∷ []) ∷ (1074 ∷ 0 ∷ 0 ∷ 0 ∷ 0 ∷ []) ∷ (22 ∷ []) ∷ []
+unfolding starred step-of jumps at zeros none open-map aux overflow writes directs stepped rotateRight lowBits fieldOf mergeInto decoded inSet shapeOf slotOf resultOf withOverflow actState goState
 starred-values = refl

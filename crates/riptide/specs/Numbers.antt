@@ -1,7 +1,7 @@
 -- The exported calls' answers as one number each, for C and Rust.
-use mathlib.Core.Bool.{_&&_}
-use Prim.Native.Nat.{ℕ, _+_, _*_, _%_, _^_}
-use lib.Dec.{eqb}
+use mathlib.Core.Bool.{Bool, _&&_}
+use Prim.Native.Nat.{ℕ, _+_, _*_, _/_, _%_, _^_}
+use lib.Dec.{ltb, eqb}
 use Rattle.choice.specs.Choice.{pick}
 use Rattle.word.specs.declared.Word.{Word}
 use Rattle.word.specs.declared.Word.the-variants.{Move, Add, And, Xor, XecRegister, XecBank, NztRegister, NztBank, Call, Ret, XmitRegister, XmitBank, Jmp, Invalid}
@@ -88,3 +88,35 @@ admitNumber (Found number depth address) = foundNumber number depth address
 abbrev pub runNumber : RunAnswer → ℕ
 runNumber (Refused number) = number
 runNumber (Ended count stop) = count % 2 ^ 56 * 256 + stop % 256
+
+-- How a caller takes a number apart, as the macros of include/riptide.h do: `width` bits from bit `place` on, bit 0 being
+-- the lowest here.
+abbrev pub bitsFrom : ℕ → ℕ → ℕ → ℕ
+bitsFrom place width n = n / 2 ^ place % 2 ^ width
+
+-- RIPTIDE_NUMBER: 0, a refusal below 21, or a stop or finding
+abbrev pub numberIn : ℕ → ℕ
+numberIn n = n % 256
+
+abbrev pub isRefusal : ℕ → Bool
+isRefusal number = ltb 0 number && ltb number 21
+
+-- The answers that the numbers stand for: RIPTIDE_OPCODE and RIPTIDE_FIELD_1 to 3; RIPTIDE_WORD; the four counts;
+-- RIPTIDE_DEPTH and RIPTIDE_ADDRESS; RIPTIDE_COUNT.
+abbrev pub wordIn : ℕ → Word
+wordIn n = wordFrom (bitsFrom 8 8 n) (bitsFrom 16 16 n) (bitsFrom 32 16 n) (bitsFrom 48 16 n)
+
+abbrev pub encodingIn : ℕ → Encoding
+encodingIn n = pick (eqb (numberIn n) 0) (Bits (bitsFrom 8 16 n)) NotWritten
+
+abbrev pub countsIn : ℕ → Counts
+countsIn n =
+    pick (eqb (numberIn n) 0) (Sets (bitsFrom 8 12 n) (bitsFrom 20 12 n) (bitsFrom 32 12 n) (bitsFrom 44 12 n)) NotCounted
+
+abbrev pub admitAnswerIn : ℕ → AdmitAnswer
+admitAnswerIn n =
+    pick (eqb (numberIn n) 0) Admitted
+    (pick (isRefusal (numberIn n)) (NotAdmitted (numberIn n)) (Found (numberIn n) (bitsFrom 8 8 n) (bitsFrom 16 16 n)))
+
+abbrev pub runAnswerIn : ℕ → RunAnswer
+runAnswerIn n = pick (isRefusal (numberIn n)) (Refused (numberIn n)) (Ended (bitsFrom 8 56 n) (numberIn n))

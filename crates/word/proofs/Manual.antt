@@ -1,5 +1,6 @@
--- The instruction words of the manual's worked examples, read and written, as one list each. The case stands in the
--- manual's assembler notation: R17 is the right bus address, LIV3 the left bank at bit 3, @ octal, $ hexadecimal.
+-- The instruction words of the manual's 35 worked examples, read and written, as one list each. The case stands in the
+-- manual's assembler notation: R17 is the right bus address, LIV3 the left bank at bit 3, @ octal, $ hexadecimal. Where
+-- notation and binary word disagree, the binary word decides.
 use mathlib.Core.Path.{_≡_, refl}
 use mathlib.Core.List.{List, [], _∷_, map}
 use Prim.Native.Nat.{ℕ}
@@ -12,7 +13,7 @@ abbrev words : List ℕ
 words =
     320 ∷ 783 ∷ 2421 ∷ 7014 ∷ 4725 ∷ 5223 ∷ 0 ∷ 8579 ∷ 8975 ∷ 10643 ∷ 14227 ∷ 14217 ∷ 14223 ∷ 16771 ∷ 17167 ∷
     18835 ∷ 22409 ∷ 22419 ∷ 22415 ∷ 24963 ∷ 25359 ∷ 27027 ∷ 30601 ∷ 30611 ∷ 30607 ∷ 33741 ∷ 38006 ∷ 42546 ∷
-    46381 ∷ 42804 ∷ 44800 ∷ 49407 ∷ 54662 ∷ 57674 ∷ []
+    46381 ∷ 42804 ∷ 44800 ∷ 49407 ∷ 50987 ∷ 54662 ∷ 57674 ∷ []
 
 abbrev cases : List Word
 cases =
@@ -72,7 +73,7 @@ cases =
     XecBank 20 3 22 ∷
     -- 0xA632 NZT R6, $32
     NztRegister 6 50 ∷
-    -- 0xB52D NZT LIV5, 1, 15H (octal 15, as its text and its bits say)
+    -- 0xB52D NZT LIV5, 1, 15H (octal 15, as its bits say)
     NztBank 21 1 13 ∷
     -- 0xA734 CALL $34
     Call 52 ∷
@@ -80,6 +81,8 @@ cases =
     Ret ∷
     -- 0xC0FF XMIT @377, AUX
     XmitRegister 0 255 ∷
+    -- 0xC72B XMIT @027, IVL (octal 53, as its bits say)
+    XmitRegister 7 43 ∷
     -- 0xD586 XMIT $06, LIV5, 4
     XmitBank 21 4 6 ∷
     -- 0xE14A JMP @512

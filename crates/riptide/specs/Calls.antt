@@ -1,0 +1,42 @@
+-- Demand 3 in the numbers that C and Rust see: what holds from the moment when riptide_admit gave 0.
+use mathlib.Core.Path.{_≡_}
+use mathlib.Core.List.{List, [], _∷_}
+use Prim.Native.Nat.{ℕ, _*_, _^_, _<_}
+use lib.ListN.{length}
+use Rattle.state.specs.State.{stateLength, resetNumberOf, resetState}
+use Rattle.emulator.specs.Run.{pairCount, runResult}
+use Rattle.admission.specs.Admission.{admitResult}
+use Rattle.guarantee.specs.Demand.{Bytes, Job, Fault, Flawless}
+use Rattle.riptide.specs.Numbers.{admitNumber, runNumber}
+
+-- What riptide_admit and riptide_run give: their contracts equate their results with these.
+abbrev pub admitGives : List ℕ → List ℕ → List ℕ → ℕ
+admitGives image map table = admitNumber (admitResult image map table .answer)
+
+abbrev pub runGives : List ℕ → List ℕ → List ℕ → Job → ℕ
+runGives image map state job = runNumber (runResult image map state (job .recording) (job .trace) .answer)
+
+-- Recordings of fewer than 2^56 pairs, whose count fits its place; no memory holds a longer one.
+pub data Countable : List Job → Type 0 where
+  noJob : Countable []
+  fewPairs : {job : Job} {jobs : List Job} → pairCount (job .recording) < 2 ^ 56 → Countable jobs → Countable (job ∷ jobs)
+
+-- Calls of riptide_run one after another, each on the state that the one before left. Each gives the number of its pairs
+-- times 256, so RIPTIDE_COUNT is that number and RIPTIDE_NUMBER 0; or it gives 15 or 16 for a fault of its own recording
+-- or trace, and leaves state and trace as they were.
+pub data Calls (image map : List ℕ) : List ℕ → List Job → Type 0 where
+  noMore : {state : List ℕ} → Calls image map state []
+  gavePairs : {state : List ℕ} {job : Job} {jobs : List Job} → runGives image map state job ≡ pairCount (job .recording) * 256
+      → Calls image map (runResult image map state (job .recording) (job .trace) .state) jobs → Calls image map state (job ∷ jobs)
+  gaveRefusal : {state : List ℕ} {job : Job} {jobs : List Job} {number : ℕ} → Fault job number → runGives image map state job ≡ number
+      → runResult image map state (job .recording) (job .trace) .state ≡ state
+      → runResult image map state (job .recording) (job .trace) .trace ≡ job .trace
+      → Calls image map (runResult image map state (job .recording) (job .trace) .state) jobs → Calls image map state (job ∷ jobs)
+
+-- After riptide_admit gave 0: riptide_reset gives 0 for every state of 36 bytes, and from the bytes that it leaves every
+-- list of runs is flawless, in the sense of demand 3, and gives those numbers.
+abbrev pub AdmittedCalls : List ℕ → List ℕ → List ℕ → List ℕ → Type 0
+AdmittedCalls image map table state =
+    Bytes image → admitGives image map table ≡ 0 → length state ≡ stateLength
+    → (resetNumberOf state ≡ 0) × ((jobs : List Job) → Countable jobs
+    → Flawless image map (admitResult image map table .table) (resetState state) jobs × Calls image map (resetState state) jobs)
