@@ -1,14 +1,18 @@
 /* RIPTIDE-II panel programs: reading and writing words, counting a map's sets, admission, reset and run.
  *
- * Link target/staticlib/libriptide.a, which `rt staticlib riptide` writes. Every call takes any bytes of any length, ends,
- * keeps nothing between calls, and gives one number. A pointer is followed by the count of bytes behind it; with a count
- * of 0 it must still not be null. Bytes lent with `const` are never written, the others only as said, and buffers must
- * not overlap. A refusal changes no byte.
+ * Link target/staticlib/libriptide.a, which `rt staticlib riptide` writes. Every call takes any bytes of any length,
+ * ends, and gives one number. A pointer is followed by the count of bytes behind it; with a count of 0 it must still
+ * not be null. Bytes lent with `const` are never written, the others only as said. A refusal changes no byte.
+ * docs/FORMATS.md has every byte of image, map, state, recording, trace and table.
  *
- * Formats ("document 01"): an image is 2 to 16,384 bytes, each word high byte first, N words; a map is 128 bytes, four sets
- * of 32 bytes: left readable, left writable, right readable, right writable, address a being the bit 1 << (a % 8) of byte
- * a / 8; a state is 36 bytes; a recording has a left and a right byte for each step; a trace 4 bytes for each step; a table
- * of facts 144 bytes for each word.
+ * Threads: calls keep nothing between them, so any number of threads may call at once with buffers of their own.
+ *
+ * Overlap: the proof assumes that lent buffers do not overlap, and where they do nothing is promised. A table over the
+ * map, for example, can turn a refusal round, since the findings are asked of the map after the table has been filled.
+ *
+ * Time is bounded by sweeps and not by the clock: in an admission at most 108 sweeps for each word of the image change
+ * the table and one more does not, and a sweep goes through 9 cells for each word. A run takes at most one step for
+ * each pair. docs/RATES.md has seconds.
  */
 #ifndef RIPTIDE_H
 #define RIPTIDE_H
@@ -19,6 +23,77 @@
 #ifdef __cplusplus
 extern "C" {
 #endif
+
+/* 10,000 times the first part, 100 times the second, and the third. */
+#define RIPTIDE_VERSION 10000
+#define RIPTIDE_VERSION_TEXT "1.0.0"
+
+/* Lengths. An image has an even count of bytes, 2 at least. */
+#define RIPTIDE_WORD_BYTES 2
+#define RIPTIDE_MOST_WORDS 8192
+#define RIPTIDE_MOST_IMAGE_BYTES 16384
+#define RIPTIDE_MAP_BYTES 128
+#define RIPTIDE_SET_BYTES 32 /* each of a map's four sets */
+#define RIPTIDE_STATE_BYTES 36
+#define RIPTIDE_PAIR_BYTES 2 /* a recording, for each step */
+#define RIPTIDE_TRACE_RECORD_BYTES 4 /* a trace, for each step */
+#define RIPTIDE_TABLE_RECORD_BYTES 16 /* a table of facts, for each cell */
+#define RIPTIDE_TABLE_WORD_BYTES 144 /* and for each word: one record for each depth, 0 to 8 */
+#define RIPTIDE_TABLE_BYTES(image_length) ((size_t)(image_length) / RIPTIDE_WORD_BYTES * RIPTIDE_TABLE_WORD_BYTES)
+
+/* The number in the low byte of every answer: 0, a refusal, or a stop or finding. */
+#define RIPTIDE_NUMBER(n) ((unsigned)((n) & 0xff))
+
+/* Refusals, asked at the door. */
+#define RIPTIDE_REFUSED_IMAGE 11
+#define RIPTIDE_REFUSED_MAP 12
+#define RIPTIDE_REFUSED_TABLE 13
+#define RIPTIDE_REFUSED_STATE 14
+#define RIPTIDE_REFUSED_RECORDING 15
+#define RIPTIDE_REFUSED_TRACE 16
+#define RIPTIDE_REFUSED_INPUT 18 /* by the bench alone */
+
+/* Stops of a run and findings of admission; the last two are findings alone. */
+#define RIPTIDE_OUTSIDE_CODE 21
+#define RIPTIDE_INVALID_WORD 22
+#define RIPTIDE_NOT_READABLE 23
+#define RIPTIDE_NOT_WRITABLE 24
+#define RIPTIDE_NOT_LISTED 25
+#define RIPTIDE_STACK_FULL 26
+#define RIPTIDE_STACK_EMPTY 27
+#define RIPTIDE_NOT_KNOWN 28
+#define RIPTIDE_XEC_OF_XEC 29
+
+/* Whether a number is a refusal: then there is no depth, address or count. */
+static inline int riptide_is_refusal(unsigned number)
+{
+    return number >= RIPTIDE_REFUSED_IMAGE && number <= RIPTIDE_REFUSED_INPUT;
+}
+
+/* What a number says, in a few words. */
+static inline const char *riptide_text(unsigned number)
+{
+    switch (number) {
+    case 0: return "no refusal, stop or finding";
+    case RIPTIDE_REFUSED_IMAGE: return "the image is not 2 to 16,384 bytes, or of odd length";
+    case RIPTIDE_REFUSED_MAP: return "the map is not 128 bytes";
+    case RIPTIDE_REFUSED_TABLE: return "the table is not 144 bytes for each word";
+    case RIPTIDE_REFUSED_STATE: return "the state is not 36 bytes or not well formed";
+    case RIPTIDE_REFUSED_RECORDING: return "the recording is of odd length";
+    case RIPTIDE_REFUSED_TRACE: return "the trace is not twice as long as the recording";
+    case RIPTIDE_REFUSED_INPUT: return "the bench's input is longer than 928 bytes";
+    case RIPTIDE_OUTSIDE_CODE: return "goes on, or would return, outside the code";
+    case RIPTIDE_INVALID_WORD: return "an invalid word";
+    case RIPTIDE_NOT_READABLE: return "reads at an address that is not readable";
+    case RIPTIDE_NOT_WRITABLE: return "writes data at an address that is not writable";
+    case RIPTIDE_NOT_LISTED: return "chooses an address that is not listed";
+    case RIPTIDE_STACK_FULL: return "a CALL with eight return addresses on the stack";
+    case RIPTIDE_STACK_EMPTY: return "a RET with an empty stack";
+    case RIPTIDE_NOT_KNOWN: return "an address or a CALL's page is not known";
+    case RIPTIDE_XEC_OF_XEC: return "an XEC may execute an XEC";
+    default: return "unknown number";
+    }
+}
 
 /* Reads a word. 22 if it is invalid; else its opcode and fields, to be taken out by the four below. MOVE, ADD, AND, XOR
  * have source, rotation or length, destination; XEC, NZT and XMIT of a bank have bank, length, constant, of a register
@@ -43,9 +118,6 @@ uint64_t riptide_count_sets(const uint8_t *map, size_t map_length);
 #define RIPTIDE_LEFT_WRITABLE(n) ((unsigned)((n) >> 20 & 0xfff))
 #define RIPTIDE_RIGHT_READABLE(n) ((unsigned)((n) >> 32 & 0xfff))
 #define RIPTIDE_RIGHT_WRITABLE(n) ((unsigned)((n) >> 44 & 0xfff))
-
-/* The number in the low byte of any answer: 0, a refusal 11-18, or a stop or finding 21-29. */
-#define RIPTIDE_NUMBER(n) ((unsigned)((n) & 0xff))
 
 /* Makes a state that of reset, all 36 bytes zero. 0, or 14 if the state is not 36 bytes. */
 uint64_t riptide_reset(uint8_t *state, size_t state_length);

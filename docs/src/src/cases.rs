@@ -13,6 +13,7 @@
 
 pub mod admissions;
 pub mod runs;
+pub mod values;
 pub mod words;
 
 use crate::digest::lcg_bytes;
@@ -88,6 +89,43 @@ fn valid_words(seed: u32, count: usize) -> Vec<u8> {
     let kept: Vec<u8> = valid.take(count).flatten().collect();
     assert_eq!(kept.len(), 2 * count, "more than a quarter of all words are valid");
     kept
+}
+
+/// A case as its line gives it: a word and a name, what is lent, and what
+/// comes out of it.
+#[derive(Clone)]
+pub struct Entry {
+    pub name: String,
+    pub given: Vec<(&'static str, String)>,
+    pub gives: Vec<(&'static str, String)>,
+}
+
+fn with_fields(name: &str, fields: &[(&str, String)]) -> String {
+    fields.iter().fold(name.to_string(), |line, (key, value)| format!("{line} {key}={value}"))
+}
+
+impl Entry {
+    /// The whole line, as an expectation file has it.
+    pub fn line(&self) -> String {
+        with_fields(&self.input(), &self.gives)
+    }
+
+    /// What a program of the gate reads.
+    pub fn input(&self) -> String {
+        with_fields(&self.name, &self.given)
+    }
+
+    /// What it must write.
+    pub fn output(&self) -> String {
+        with_fields(&self.name, &self.gives)
+    }
+
+    /// The case without one of the fields that come out.
+    pub fn without(&self, key: &str) -> Entry {
+        let mut entry = self.clone();
+        entry.gives.retain(|(name, _)| *name != key);
+        entry
+    }
 }
 
 /// The header of every file: the forms above, as comment lines.

@@ -22,6 +22,11 @@ impl Digest {
         digest.add(bytes);
         digest.0
     }
+
+    /// The digest of bytes in 16 hexadecimal digits.
+    pub fn text(bytes: &[u8]) -> String {
+        format!("{:016x}", Digest::of(bytes))
+    }
 }
 
 /// Bytes of a linear congruential generator: for each byte first

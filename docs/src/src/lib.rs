@@ -12,5 +12,6 @@ pub mod map;
 pub mod naive;
 pub mod programs;
 pub mod run;
+pub mod stored;
 pub mod table;
 pub mod word;

@@ -40,3 +40,20 @@ fn other_programs() {
     let map = map_of([&[0, 7, 8], &[255], &[], &[1, 2]]);
     assert_eq!(with(&map, &[0xe000]), "admitted words 1 left 3 1 right 0 2\n");
 }
+
+/// What the gate gives the bench program and what must come out, and the samples.
+#[test]
+fn stored_inputs() {
+    let file = |name: &str| {
+        std::fs::read(format!("{}/../../{name}", env!("CARGO_MANIFEST_DIR"))).expect(name)
+    };
+    assert_eq!(line(&file("crates/bench/stdin")).as_bytes(), file("crates/bench/stdout"));
+    for (sample, text) in [
+        ("samples/indicator.bin", "admitted words 4 left 1 0 right 0 1"),
+        ("samples/odometer.bin", "refused 28 depth 0 address 3"),
+    ] {
+        assert_eq!(line(&file(sample)), format!("{text}\n"));
+        let said = String::from_utf8(file("samples/README.md")).expect("text");
+        assert!(said.contains(&format!("The bench prints `{text}`")), "{sample}");
+    }
+}

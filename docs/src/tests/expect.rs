@@ -1,10 +1,11 @@
-//! The expectation files: they are what is generated, and the direct emulator
-//! and the rounds agree with them when the lines are read back.
+//! The stored files: they are what is generated, and the direct emulator and
+//! the rounds agree with the expectations when the lines are read back.
 
-use riptide_reference::cases::{admissions, hex, runs, words, Bytes, FILLER};
+use riptide_reference::cases::{hex, runs, Bytes, FILLER};
 use riptide_reference::digest::Digest;
-use riptide_reference::{bench, direct, naive, table};
+use riptide_reference::{bench, direct, naive, stored, table};
 use std::collections::HashMap;
+use std::path::Path;
 
 fn file(name: &str) -> Vec<String> {
     let path = format!("{}/expect/{name}", env!("CARGO_MANIFEST_DIR"));
@@ -31,12 +32,24 @@ fn bytes(case: &HashMap<String, String>, key: &str) -> Vec<u8> {
     spec.expand()
 }
 
+/// Byte for byte, and the programs of the gate have no other.
 #[test]
 fn files_are_as_generated() {
-    assert_eq!(file("words.txt"), words::lines());
-    assert_eq!(file("runs.txt"), runs::lines());
-    assert_eq!(file("bench.txt"), admissions::bench_lines());
-    assert_eq!(file("admissions.txt"), admissions::lines());
+    let root = Path::new(concat!(env!("CARGO_MANIFEST_DIR"), "/../.."));
+    let files = stored::files();
+    for (path, contents) in &files {
+        let found =
+            std::fs::read_to_string(root.join(path)).unwrap_or_else(|e| panic!("{path}: {e}"));
+        assert!(found == *contents, "{path} is not what regenerate.sh writes");
+    }
+    for entry in std::fs::read_dir(root.join("crates")).unwrap() {
+        let name = entry.unwrap().file_name().into_string().unwrap();
+        for path in ["stdin", "stdout"].map(|file| format!("crates/{name}/{file}")) {
+            let known = files.iter().any(|(known, _)| *known == path);
+            let checks = name.starts_with("check_") && root.join(&path).exists();
+            assert!(known || !checks, "stored::files does not give {path}");
+        }
+    }
 }
 
 #[test]

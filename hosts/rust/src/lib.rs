@@ -1,4 +1,73 @@
 //! Safe calls of the proved library. Every byte slice is accepted: the calls refuse what does not fit.
+//! `docs/FORMATS.md` has every byte of what is lent.
+
+use std::fmt;
+
+/// The examples of the guide, as tests.
+#[cfg(doctest)]
+#[doc = include_str!("../../../docs/USING.md")]
+struct Using;
+
+/// The length of a map.
+pub const MAP_BYTES: usize = 128;
+/// The length of a state.
+pub const STATE_BYTES: usize = 36;
+
+/// How many bytes the table of facts of an image has.
+pub fn table_length(image: &[u8]) -> usize {
+    image.len() / 2 * 144
+}
+
+/// What a number says, in a few words: a refusal 11 to 18, or a stop or finding 21 to 29.
+pub fn text(number: u8) -> &'static str {
+    match number {
+        0 => "no refusal, stop or finding",
+        11 => "the image is not 2 to 16,384 bytes, or of odd length",
+        12 => "the map is not 128 bytes",
+        13 => "the table is not 144 bytes for each word",
+        14 => "the state is not 36 bytes or not well formed",
+        15 => "the recording is of odd length",
+        16 => "the trace is not twice as long as the recording",
+        18 => "the bench's input is longer than 928 bytes",
+        21 => "goes on, or would return, outside the code",
+        22 => "an invalid word",
+        23 => "reads at an address that is not readable",
+        24 => "writes data at an address that is not writable",
+        25 => "chooses an address that is not listed",
+        26 => "a CALL with eight return addresses on the stack",
+        27 => "a RET with an empty stack",
+        28 => "an address or a CALL's page is not known",
+        29 => "an XEC may execute an XEC",
+        _ => "unknown number",
+    }
+}
+
+/// A call did not do what it was asked, and changed no byte.
+#[derive(Clone, Copy, Debug, PartialEq, Eq)]
+pub struct Refusal(u8);
+
+impl Refusal {
+    /// Which question got a no: 11 image, 12 map, 13 table, 14 state, 15 recording, 16 trace; or 22, no valid word.
+    pub fn number(self) -> u8 {
+        self.0
+    }
+}
+
+impl fmt::Display for Refusal {
+    fn fmt(&self, f: &mut fmt::Formatter) -> fmt::Result {
+        write!(f, "refused {}: {}", self.0, text(self.0))
+    }
+}
+
+impl std::error::Error for Refusal {}
+
+/// The answer's bits above its low byte, if that is 0; else what it refuses with.
+fn unrefused(answer: u64) -> Result<u64, Refusal> {
+    match answer as u8 {
+        0 => Ok(answer >> 8),
+        number => Err(Refusal(number)),
+    }
+}
 
 mod raw {
     extern "C" {
@@ -36,81 +105,79 @@ pub struct Fields {
     pub fields: [u16; 3],
 }
 
-/// Reads a word; `None` if it is invalid.
-pub fn read_word(word: u16) -> Option<Fields> {
-    let number = unsafe { raw::riptide_read_word(word) };
-    if number % 256 != 0 {
-        return None;
-    }
-    let field = |place: u32| (number >> place) as u16;
-    Some(Fields { opcode: (number >> 8) as u8, fields: [field(16), field(32), field(48)] })
+/// Reads a word; 22 if it is invalid.
+pub fn read_word(word: u16) -> Result<Fields, Refusal> {
+    let bits = unrefused(unsafe { raw::riptide_read_word(word) })?;
+    Ok(Fields { opcode: bits as u8, fields: [8, 24, 40].map(|place| (bits >> place) as u16) })
 }
 
-/// Writes a word; `None` where a field is wider than its place or outside the paper's lists.
-pub fn write_word(word: Fields) -> Option<u16> {
+/// Writes a word; 22 where a field is wider than its place or outside the paper's lists.
+pub fn write_word(word: Fields) -> Result<u16, Refusal> {
     let [a, b, c] = word.fields.map(usize::from);
-    let number = unsafe { raw::riptide_write_word(word.opcode.into(), a, b, c) };
-    (number % 256 == 0).then_some((number >> 8) as u16)
+    let bits = unrefused(unsafe { raw::riptide_write_word(word.opcode.into(), a, b, c) })?;
+    Ok(bits as u16)
 }
 
-/// How many addresses each set of a map has: left readable, left writable, right readable, right writable; `Err(12)` for
-/// a map of another length.
-pub fn count_sets(map: &[u8]) -> Result<[u16; 4], u8> {
-    let number = unsafe { raw::riptide_count_sets(map.as_ptr(), map.len()) };
-    match (number % 256) as u8 {
-        0 => Ok([8, 20, 32, 44].map(|place| (number >> place & 0xfff) as u16)),
-        refusal => Err(refusal),
-    }
+/// How many addresses each set of a map has: left readable, left writable, right readable, right writable; 12 for a map
+/// of another length.
+pub fn count_sets(map: &[u8]) -> Result<[u16; 4], Refusal> {
+    let bits = unrefused(unsafe { raw::riptide_count_sets(map.as_ptr(), map.len()) })?;
+    Ok([0, 12, 24, 36].map(|place| (bits >> place & 0xfff) as u16))
 }
 
 /// What admission answers.
 #[derive(Clone, Copy, Debug, PartialEq, Eq)]
 pub enum AdmitAnswer {
-    /// A door question got a no: 11 image, 12 map, 13 table. No byte changed.
-    Refused(u8),
+    /// A door question got a no: 11 image, 12 map, 13 table.
+    Refused(Refusal),
     /// No cell of the table has a finding.
     Admitted,
     /// The lowest cell with a finding.
     Found { number: u8, depth: u8, address: u16 },
 }
 
-/// How many bytes the table of facts of an image has.
-pub fn table_length(image: &[u8]) -> usize {
-    image.len() / 2 * 144
+impl fmt::Display for AdmitAnswer {
+    fn fmt(&self, f: &mut fmt::Formatter) -> fmt::Result {
+        match *self {
+            AdmitAnswer::Refused(refusal) => refusal.fmt(f),
+            AdmitAnswer::Admitted => f.write_str("admitted"),
+            AdmitAnswer::Found { number, depth, address } => {
+                write!(f, "refused {number} depth {depth} address {address}: {}", text(number))
+            }
+        }
+    }
 }
 
 /// Reads an image under a map, and fills the table of facts.
 pub fn admit(image: &[u8], map: &[u8], table: &mut [u8]) -> AdmitAnswer {
-    let number = unsafe {
+    let answer = unsafe {
         raw::riptide_admit(image.as_ptr(), image.len(), map.as_ptr(), map.len(), table.as_mut_ptr(), table.len())
     };
-    match (number % 256) as u8 {
+    match answer as u8 {
         0 => AdmitAnswer::Admitted,
-        refusal @ 11..=18 => AdmitAnswer::Refused(refusal),
-        finding => AdmitAnswer::Found { number: finding, depth: (number >> 8) as u8, address: (number >> 16) as u16 },
+        number @ 11..=18 => AdmitAnswer::Refused(Refusal(number)),
+        number => AdmitAnswer::Found { number, depth: (answer >> 8) as u8, address: (answer >> 16) as u16 },
     }
 }
 
 /// What a run answers.
 #[derive(Clone, Copy, Debug, PartialEq, Eq)]
 pub enum RunAnswer {
-    /// A door question got a no: 11 image, 12 map, 14 state, 15 recording, 16 trace. No byte changed.
-    Refused(u8),
+    /// A door question got a no: 11 image, 12 map, 14 state, 15 recording, 16 trace.
+    Refused(Refusal),
     /// The count of trace records, and the stop number or 0.
     Ended { count: u64, stop: u8 },
 }
 
-/// Makes a state of 36 bytes that of reset; `Err(14)` for another length.
-pub fn reset(state: &mut [u8]) -> Result<(), u8> {
-    match unsafe { raw::riptide_reset(state.as_mut_ptr(), state.len()) } {
-        0 => Ok(()),
-        number => Err(number as u8),
-    }
+/// Makes a state that of reset; 14 for a state of another length.
+pub fn reset(state: &mut [u8]) -> Result<(), Refusal> {
+    unrefused(unsafe { raw::riptide_reset(state.as_mut_ptr(), state.len()) })?;
+    Ok(())
 }
 
 /// Runs an image under a map over the pairs of a recording.
 pub fn run(image: &[u8], map: &[u8], state: &mut [u8], recording: &[u8], trace: &mut [u8]) -> RunAnswer {
-    let number = unsafe {
+    let answer = unsafe {
         raw::riptide_run(
             image.as_ptr(),
             image.len(),
@@ -124,10 +191,8 @@ pub fn run(image: &[u8], map: &[u8], state: &mut [u8], recording: &[u8], trace: 
             trace.len(),
         )
     };
-    let (count, low) = (number / 256, (number % 256) as u8);
-    if count == 0 && (11..=16).contains(&low) {
-        RunAnswer::Refused(low)
-    } else {
-        RunAnswer::Ended { count, stop: low }
+    match (answer >> 8, answer as u8) {
+        (0, number @ 11..=16) => RunAnswer::Refused(Refusal(number)),
+        (count, stop) => RunAnswer::Ended { count, stop },
     }
 }

@@ -1,7 +1,8 @@
 //! The library against the independent reference: random images, maps, states, recordings and tables, valid and damaged.
 //! `RIPTIDE_CASES` sets how many cases are run (default 20,000).
 
-use riptide::{admit, count_sets, read_word, reset, run, table_length, write_word, AdmitAnswer, Fields, RunAnswer};
+use riptide::{admit, count_sets, read_word, reset, run, table_length, write_word};
+use riptide::{AdmitAnswer, Fields, Refusal, RunAnswer};
 use riptide_reference::digest::Random;
 use riptide_reference::programs::{bytes_of, damage, random_map, random_program, random_state, random_words};
 use riptide_reference::run as reference;
@@ -13,10 +14,11 @@ fn cases() -> usize {
     std::env::var("RIPTIDE_CASES").ok().and_then(|n| n.parse().ok()).unwrap_or(20_000)
 }
 
-fn expected(answer: reference::RunAnswer) -> RunAnswer {
+/// The library's answer as the reference gives it.
+fn told(answer: RunAnswer) -> reference::RunAnswer {
     match answer {
-        reference::RunAnswer::Refused(number) => RunAnswer::Refused(number),
-        reference::RunAnswer::Ran { count, stop } => RunAnswer::Ended { count: count as u64, stop },
+        RunAnswer::Refused(refusal) => reference::RunAnswer::Refused(refusal.number()),
+        RunAnswer::Ended { count, stop } => reference::RunAnswer::Ran { count: count as usize, stop },
     }
 }
 
@@ -64,8 +66,8 @@ fn equal_to_the_reference() {
         }
         let (mut state2, mut trace2) = (state.clone(), trace.clone());
         let ours = run(&image, &map, &mut state, &recording, &mut trace);
-        let theirs = expected(reference::run(&image, &map, &mut state2, &recording, &mut trace2));
-        assert_eq!(ours, theirs, "case {case}");
+        let theirs = reference::run(&image, &map, &mut state2, &recording, &mut trace2);
+        assert_eq!(told(ours), theirs, "case {case}");
         assert_eq!(state, state2, "state of case {case}");
         assert_eq!(trace, trace2, "trace of case {case}");
         match ours {
@@ -77,12 +79,12 @@ fn equal_to_the_reference() {
     println!("{} cases, {stopped} stopped, {refused} refused", cases());
 }
 
-fn expected_admission(verdict: Verdict) -> AdmitAnswer {
-    match verdict {
-        Verdict::Refused(number) => AdmitAnswer::Refused(number),
-        Verdict::Admitted => AdmitAnswer::Admitted,
-        Verdict::Finding { number, depth, address } => {
-            AdmitAnswer::Found { number, depth: depth as u8, address: address as u16 }
+fn told_verdict(answer: AdmitAnswer) -> Verdict {
+    match answer {
+        AdmitAnswer::Refused(refusal) => Verdict::Refused(refusal.number()),
+        AdmitAnswer::Admitted => Verdict::Admitted,
+        AdmitAnswer::Found { number, depth, address } => {
+            Verdict::Finding { number, depth: depth.into(), address: address.into() }
         }
     }
 }
@@ -109,8 +111,8 @@ fn admission_equal_to_the_reference() {
         }
         let mut table2 = table.clone();
         let ours = admit(&image, &map, &mut table);
-        let theirs = expected_admission(reference_admit(&image, &map, &mut table2).verdict);
-        assert_eq!(ours, theirs, "case {case}");
+        let theirs = reference_admit(&image, &map, &mut table2).verdict;
+        assert_eq!(told_verdict(ours), theirs, "case {case}");
         assert_eq!(table, table2, "table of case {case}");
         match ours {
             AdmitAnswer::Refused(_) => refused += 1,
@@ -121,8 +123,8 @@ fn admission_equal_to_the_reference() {
     println!("{cases} cases, {admitted} admitted, {refused} refused, findings 21-29: {:?}", &found[21..]);
 }
 
-/// A word's case as the library's opcode and fields.
-fn fields_of(word: Word) -> Option<Fields> {
+/// A word's case as the library's opcode and fields, or 22.
+fn fields_of(word: Word) -> Result<Fields, u8> {
     let (opcode, fields) = match word {
         Word::Move { s, rl, d } => (0, [s, rl, d]),
         Word::Add { s, rl, d } => (1, [s, rl, d]),
@@ -137,9 +139,9 @@ fn fields_of(word: Word) -> Option<Fields> {
         Word::XmitRegister { d, i } => (6, [d, i, 0]),
         Word::XmitBank { d, l, i } => (6, [d, l, i]),
         Word::Jmp { a } => (7, [a, 0, 0]),
-        Word::Invalid => return None,
+        Word::Invalid => return Err(22),
     };
-    Some(Fields { opcode, fields })
+    Ok(Fields { opcode, fields })
 }
 
 #[test]
@@ -147,17 +149,17 @@ fn every_word_read_and_written() {
     let mut valid = 0;
     for word in 0..=65535 {
         let read = read_word(word);
-        assert_eq!(read, fields_of(decode(word)), "word {word:04x}");
-        if let Some(fields) = read {
+        assert_eq!(read.map_err(Refusal::number), fields_of(decode(word)), "word {word:04x}");
+        if let Ok(fields) = read {
             valid += 1;
-            assert_eq!(write_word(fields), Some(word), "word {word:04x}");
+            assert_eq!(write_word(fields), Ok(word), "word {word:04x}");
         }
     }
     assert_eq!(valid, 47_169);
 }
 
 /// The word of an opcode and fields by the reference, a field that it does not have being 0.
-fn written([op, a, b, c]: [u16; 4]) -> Option<u16> {
+fn written([op, a, b, c]: [u16; 4]) -> Result<u16, u8> {
     let bank = is_bank(a);
     let word = match (op, c) {
         (0, _) => Word::Move { s: a, rl: b, d: c },
@@ -173,9 +175,9 @@ fn written([op, a, b, c]: [u16; 4]) -> Option<u16> {
         (5, 0) => Word::NztRegister { s: a, i: b },
         (6, 0) => Word::XmitRegister { d: a, i: b },
         (7, 0) if b == 0 => Word::Jmp { a },
-        _ => return None,
+        _ => return Err(22),
     };
-    encode(word).ok()
+    encode(word)
 }
 
 #[test]
@@ -186,22 +188,25 @@ fn fields_written_or_refused() {
         let limits = [field(8), field(32), field(8), field(32)];
         let fields = limits.map(|limit| random.below(limit) as u16);
         let ours = write_word(Fields { opcode: fields[0] as u8, fields: [fields[1], fields[2], fields[3]] });
-        assert_eq!(ours, written([fields[0] % 256, fields[1], fields[2], fields[3]]), "{fields:?}");
+        let theirs = written([fields[0] % 256, fields[1], fields[2], fields[3]]);
+        assert_eq!(ours.map_err(Refusal::number), theirs, "{fields:?}");
     }
+}
+
+fn compare_counts(map: &[u8]) {
+    let ours = count_sets(map).map_err(Refusal::number);
+    assert_eq!(ours, reference_map::counts(map).map(|counts| counts.map(|count| count as u16)));
 }
 
 #[test]
 fn sets_counted() {
     let mut random = Random(0x5e75);
     for length in 0..300 {
-        let map = random_bytes(&mut random, length);
-        let expected = reference_map::counts(&map).map(|counts| counts.map(|count| count as u16));
-        assert_eq!(count_sets(&map), expected);
+        compare_counts(&random_bytes(&mut random, length));
     }
     assert_eq!(count_sets(&[255; 128]), Ok([256; 4]));
     for _ in 0..1000 {
-        let map = random_map(&mut random);
-        assert_eq!(count_sets(&map), reference_map::counts(&map).map(|counts| counts.map(|count| count as u16)));
+        compare_counts(&random_map(&mut random));
     }
 }
 
@@ -209,7 +214,7 @@ fn sets_counted() {
 fn reset_takes_36_bytes() {
     for length in 0..80 {
         let mut state = vec![7; length];
-        let answer = reset(&mut state);
+        let answer = reset(&mut state).map_err(Refusal::number);
         if length == 36 {
             assert_eq!((answer, state), (Ok(()), vec![0; 36]));
         } else {

@@ -1,7 +1,7 @@
 //! Steps per second of the library beside the direct Rust emulator, over the same 32,768 pairs, repeated; and seconds of
-//! admission for images of 8,192 words. Run by `cargo test --release --offline --test rate -- --ignored --nocapture`.
+//! admission for the images of 8,192 words that `docs/RATES.md` names, where it is said how these are run.
 
-use riptide::{admit, run, table_length, RunAnswer};
+use riptide::{admit, run, table_length, AdmitAnswer, RunAnswer};
 use riptide_reference::digest::{lcg_bytes, Digest};
 use riptide_reference::direct;
 use riptide_reference::programs::{bytes_of, timing_map, timing_words};
@@ -61,6 +61,14 @@ fn backward_jumps() -> Vec<u16> {
     (0..WORDS).map(|a| JMP | ((a + WORDS - 1) % WORDS) as u16).collect()
 }
 
+/// Calls of a routine that returns, 500 in a row.
+fn calls_in_a_row() -> Vec<u16> {
+    let mut words = vec![RET; WORDS];
+    words[0] = JMP | 256;
+    calls(&mut words[..257 + 500], 256, 1, JMP | 256);
+    words
+}
+
 /// Calls of the routine at `to`, in the page of AUX 0, from `from` on, up to a jump or return.
 fn calls(words: &mut [u16], from: usize, to: usize, last: u16) {
     words[from..].fill(CALL | to as u16);
@@ -107,13 +115,13 @@ fn dispatchers() -> Vec<u16> {
     words
 }
 
-/// A routine of 3,900 returns, each of which asks every word for a call site, swept as often as there are backward jumps.
-fn returns_and_jumps(jumps: usize) -> Vec<u16> {
+/// A routine of returns, each of which asks every word for a call site, swept as often as there are backward jumps.
+fn returns_and_jumps(returns: usize, jumps: usize) -> Vec<u16> {
     let mut words = vec![RET; WORDS];
     words[0] = READ;
     words[1] = CALL | 4;
     words[2] = JMP | (WORDS - 1) as u16;
-    for a in (4..7_800).step_by(2) {
+    for a in (4..2 * returns).step_by(2) {
         words[a] = if a % 256 == 254 { JMP | (a + 2) as u16 } else { NZT | ((a + 2) % 256) as u16 };
     }
     for (a, word) in words.iter_mut().enumerate().skip(WORDS - jumps) {
@@ -123,28 +131,55 @@ fn returns_and_jumps(jumps: usize) -> Vec<u16> {
     words
 }
 
+/// The images of the table of `docs/RATES.md` by their names there; the last takes minutes.
+fn images() -> [(&'static str, Vec<u16>); 8] {
+    [
+        ("straight line, back to its start", straight_line()),
+        ("a dispatcher (XEC of 3 bits into eight jumps) on each page of 32", dispatchers()),
+        ("XEC of an unknown register at every other word (refused, 29)", xec_tables()),
+        ("each word jumps to the one before it", backward_jumps()),
+        ("7,900 calls in a row, routines eight levels deep", calls_and_returns()),
+        ("3,900 returns in one routine, and 100 backward jumps", returns_and_jumps(3_900, 100)),
+        ("500 calls in a row", calls_in_a_row()),
+        ("1,900 returns in one routine, and 4,000 backward jumps", returns_and_jumps(1_900, 4_000)),
+    ]
+}
+
+#[test]
+fn images_are_named_as_in_the_table() {
+    let text = std::fs::read_to_string(concat!(env!("CARGO_MANIFEST_DIR"), "/../../docs/RATES.md")).expect("rates");
+    let (_, table) = text.split_once("| image |").expect("the table of images");
+    let rows = table.lines().skip(2).map_while(|line| line.strip_prefix("| ")?.split(" | ").next());
+    assert_eq!(rows.collect::<Vec<_>>(), images().map(|(name, _)| name));
+}
+
+/// The library's answer, its table and its seconds.
+fn admitted(image: &[u8]) -> (AdmitAnswer, Vec<u8>, f64) {
+    let mut table = vec![0; table_length(image)];
+    let started = Instant::now();
+    let answer = admit(image, &[255; 128], &mut table);
+    (answer, table, started.elapsed().as_secs_f64())
+}
+
 #[test]
 #[ignore]
 fn admission_seconds() {
-    let images: [(&str, Vec<u16>); 6] = [
-        ("straight line", straight_line()),
-        ("backward jumps", backward_jumps()),
-        ("calls and returns", calls_and_returns()),
-        ("XEC tables", xec_tables()),
-        ("dispatchers", dispatchers()),
-        ("returns and 100 backward jumps", returns_and_jumps(100)),
-    ];
-    for (name, words) in images {
-        let image = bytes_of(&words);
-        let mut table = vec![0; table_length(&image)];
-        let mut table2 = table.clone();
-        let started = Instant::now();
-        let ours = admit(&image, &[255; 128], &mut table);
-        let seconds = started.elapsed().as_secs_f64();
+    for (name, words) in &images()[..7] {
+        let image = bytes_of(words);
+        let (ours, table, seconds) = admitted(&image);
+        let mut table2 = vec![0; table.len()];
         let started = Instant::now();
         let theirs = riptide_reference::table::admit(&image, &[255; 128], &mut table2);
         let reference = started.elapsed().as_secs_f64();
         assert_eq!(table, table2);
-        println!("{name}: {ours:?}, {} sweeps, {seconds:.3} s, reference {reference:.3} s", theirs.sweeps);
+        println!("{name}: {ours}, {} sweeps, {seconds:.3} s, reference {reference:.3} s", theirs.sweeps);
     }
+}
+
+#[test]
+#[ignore]
+fn dearest_image() {
+    let [.., (name, words)] = images();
+    let (answer, _, seconds) = admitted(&bytes_of(&words));
+    println!("{name}: {answer}, {seconds:.0} s");
 }

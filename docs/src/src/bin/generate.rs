@@ -1,21 +1,18 @@
-//! Writes the expectation files into the folder named on the command line,
-//! `expect` if none is named. The same files come out each time.
+//! Writes every stored file of `stored` below the repository's root, or below
+//! the folder named on the command line. The same files come out each time.
 
-use riptide_reference::cases::{admissions, runs, words};
+use riptide_reference::stored;
 use std::fs;
-use std::path::Path;
-
-fn save(folder: &Path, name: &str, lines: Vec<String>) -> std::io::Result<()> {
-    println!("{name}: {} lines", lines.len());
-    fs::write(folder.join(name), lines.join("\n") + "\n")
-}
+use std::path::PathBuf;
 
 fn main() -> std::io::Result<()> {
-    let folder = std::env::args().nth(1).unwrap_or_else(|| "expect".to_string());
-    let folder = Path::new(&folder);
-    fs::create_dir_all(folder)?;
-    save(folder, "words.txt", words::lines())?;
-    save(folder, "runs.txt", runs::lines())?;
-    save(folder, "admissions.txt", admissions::lines())?;
-    save(folder, "bench.txt", admissions::bench_lines())
+    let named = std::env::args_os().nth(1).map(PathBuf::from);
+    let root = named.unwrap_or_else(|| concat!(env!("CARGO_MANIFEST_DIR"), "/../..").into());
+    for (path, contents) in stored::files() {
+        println!("{path}: {} lines", contents.lines().count());
+        let path = root.join(path);
+        fs::create_dir_all(path.parent().expect("a file is in a folder"))?;
+        fs::write(path, contents)?;
+    }
+    Ok(())
 }

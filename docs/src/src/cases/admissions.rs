@@ -1,7 +1,7 @@
 //! Admissions with answer, sweep count and digest of the table's bytes, and
 //! lines of the bench program.
 
-use super::{Bytes, ALL_ONES, FILLER};
+use super::{Bytes, Entry, ALL_ONES, FILLER};
 use crate::bench;
 use crate::digest::{Digest, Random};
 use crate::programs::*;
@@ -43,27 +43,32 @@ impl Case {
         admit(&self.image.expand(), &self.map.expand(), &mut table).verdict
     }
 
-    pub fn line(&self) -> String {
+    pub fn entry(&self) -> Entry {
         let mut table = vec![FILLER; self.table_bytes];
         let answer = admit(&self.image.expand(), &self.map.expand(), &mut table);
-        format!(
-            "admission {} image={} map={} table={} answer={} sweeps={} table_digest={:016x}",
-            self.name,
-            self.image.text(),
-            self.map.text(),
-            self.table_bytes,
-            verdict_text(answer.verdict),
-            answer.sweeps,
-            Digest::of(&table)
-        )
+        Entry {
+            name: format!("admission {}", self.name),
+            given: vec![
+                ("image", self.image.text()),
+                ("map", self.map.text()),
+                ("table", self.table_bytes.to_string()),
+            ],
+            gives: vec![
+                ("answer", verdict_text(answer.verdict)),
+                ("sweeps", answer.sweeps.to_string()),
+                ("table_digest", Digest::text(&table)),
+            ],
+        }
     }
 
-    /// The case's line of the bench program.
-    fn bench_line(&self) -> String {
-        let input = [self.map.expand(), self.image.expand()].concat();
-        let line = bench::line(&input);
-        let (map, image) = (self.map.text(), self.image.text());
-        format!("bench {} map={map} image={image} line={}", self.name, line.trim_end())
+    /// The same map and image given to the bench program.
+    fn bench_entry(&self) -> Entry {
+        let line = bench::line(&[self.map.expand(), self.image.expand()].concat());
+        Entry {
+            name: format!("bench {}", self.name),
+            given: vec![("map", self.map.text()), ("image", self.image.text())],
+            gives: vec![("line", line.trim_end().to_string())],
+        }
     }
 }
 
@@ -217,17 +222,18 @@ pub fn cases() -> Vec<Case> {
     [named(), faults(), executed_faults(), random_cases(), large(), doors()].concat()
 }
 
-pub fn lines() -> Vec<String> {
-    let mut lines = super::header("admissions: table= is the length of the lent table");
-    lines.extend(cases().iter().map(Case::line));
-    lines
+pub fn entries() -> Vec<Entry> {
+    cases().iter().map(Case::entry).collect()
 }
 
-/// Bench lines of the cases that fit, and of inputs of other lengths.
-pub fn bench_lines() -> Vec<String> {
-    let mut lines = super::header("bench: standard input is map, then image; line= is to the end");
+pub fn header() -> Vec<String> {
+    super::header("admissions: table= is the length of the lent table")
+}
+
+/// The bench program with the cases that fit, and with inputs of other lengths.
+pub fn bench_entries() -> Vec<Entry> {
     let fits = |case: &&Case| case.image.expand().len() <= 802 && !case.name.starts_with("door");
-    lines.extend(cases().iter().filter(fits).map(Case::bench_line));
+    let mut entries: Vec<Entry> = cases().iter().filter(fits).map(Case::bench_entry).collect();
     for (name, map, image) in [
         ("nothing", 0, 0),
         ("short-map", 127, 0),
@@ -238,9 +244,13 @@ pub fn bench_lines() -> Vec<String> {
         ("far-too-long", 128, 5000),
     ] {
         let zeros = |count| Bytes::Hex(vec![0; count]);
-        lines.push(Case::of(name, zeros(image), zeros(map)).bench_line());
+        entries.push(Case::of(name, zeros(image), zeros(map)).bench_entry());
     }
     let longest = Bytes::Fill { word: 0xe000, count: 400 };
-    lines.push(Case::of("longest", longest, ALL_ONES).bench_line());
-    lines
+    entries.push(Case::of("longest", longest, ALL_ONES).bench_entry());
+    entries
+}
+
+pub fn bench_header() -> Vec<String> {
+    super::header("bench: standard input is map, then image; line= is to the end")
 }

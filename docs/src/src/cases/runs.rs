@@ -1,6 +1,6 @@
 //! Runs with answer, last state and digests of state and trace.
 
-use super::{hex, Bytes, ALL_ONES, FILLER, RESET};
+use super::{hex, Bytes, Entry, ALL_ONES, FILLER, RESET};
 use crate::digest::{Digest, Random};
 use crate::machine::State;
 use crate::programs::*;
@@ -48,22 +48,24 @@ impl Case {
         Outcome { answer, state, trace }
     }
 
-    pub fn line(&self) -> String {
+    pub fn entry(&self) -> Entry {
         let outcome = self.outcome();
-        format!(
-            "run {} image={} map={} state={} recording={} trace={} \
-             answer={} state_after={} state_digest={:016x} trace_digest={:016x}",
-            self.name,
-            self.image.text(),
-            self.map.text(),
-            self.state.text(),
-            self.recording.text(),
-            self.trace_bytes,
-            answer_text(outcome.answer),
-            hex(&outcome.state),
-            Digest::of(&outcome.state),
-            Digest::of(&outcome.trace)
-        )
+        Entry {
+            name: format!("run {}", self.name),
+            given: vec![
+                ("image", self.image.text()),
+                ("map", self.map.text()),
+                ("state", self.state.text()),
+                ("recording", self.recording.text()),
+                ("trace", self.trace_bytes.to_string()),
+            ],
+            gives: vec![
+                ("answer", answer_text(outcome.answer)),
+                ("state_after", hex(&outcome.state)),
+                ("state_digest", Digest::text(&outcome.state)),
+                ("trace_digest", Digest::text(&outcome.trace)),
+            ],
+        }
     }
 }
 
@@ -278,8 +280,10 @@ pub fn cases() -> Vec<Case> {
     [chains(), admitted(), loose(), stopping(), ends(), written(), doors()].concat()
 }
 
-pub fn lines() -> Vec<String> {
-    let mut lines = super::header("runs: trace= is the length of the lent trace");
-    lines.extend(cases().iter().map(Case::line));
-    lines
+pub fn entries() -> Vec<Entry> {
+    cases().iter().map(Case::entry).collect()
+}
+
+pub fn header() -> Vec<String> {
+    super::header("runs: trace= is the length of the lent trace")
 }

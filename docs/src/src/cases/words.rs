@@ -60,14 +60,29 @@ fn read_bytes(bits: u16) -> [u8; 8] {
     [kind, a as u8, b as u8, (c % 256) as u8, (c / 256) as u8, good, high, low]
 }
 
-fn read_line(name: &str, first: u16, last: u16) -> String {
+/// Reading the words from `first` to `last`, and how many come back equal
+/// when what was read is written.
+fn read_line(name: &str, first: u16, last: u16) -> (String, usize) {
     let mut digest = Digest::default();
-    let mut valid = 0;
+    let (mut valid, mut equal) = (0, 0);
     for bits in first..=last {
         digest.add(&read_bytes(bits));
         valid += usize::from(decode(bits) != Invalid);
+        equal += usize::from(encode(decode(bits)) == Ok(bits));
     }
-    format!("read {name} first={first} last={last} valid={valid} digest={:016x}", digest.0)
+    let digest = digest.0;
+    (format!("read {name} first={first} last={last} valid={valid} digest={digest:016x}"), equal)
+}
+
+/// All words, and those of each opcode.
+fn read_lines() -> Vec<(String, usize)> {
+    let opcode = |n: u16| read_line(&format!("opcode{n}"), n * 8192, n * 8192 + 8191);
+    [read_line("all", 0, 65_535)].into_iter().chain((0..8).map(opcode)).collect()
+}
+
+/// What a program of the gate must write that reads all words and writes them.
+pub fn read_and_written() -> Vec<String> {
+    read_lines().into_iter().map(|(line, equal)| format!("{line} equal={equal}")).collect()
 }
 
 /// Writing every combination of fields up to these highest values, first
@@ -101,11 +116,7 @@ pub fn lines() -> Vec<String> {
         ]
         .map(|line| format!("# {line}")),
     );
-    lines.push(read_line("all", 0, 65_535));
-    for opcode in 0..8 {
-        let first = opcode * 8192;
-        lines.push(read_line(&format!("opcode{opcode}"), first, first + 8191));
-    }
+    lines.extend(read_lines().into_iter().map(|(line, _)| line));
     for kind in [0, 1, 2, 3, 5, 7, 11] {
         lines.push(write_line(kind, [40, 9, 40]));
     }

@@ -1,0 +1,41 @@
+//! Every stored file that comes from this reference: the expectations, and
+//! what the programs of the gate read and must write.
+
+use crate::cases::{admissions, runs, values, words, Entry};
+
+fn text(lines: impl IntoIterator<Item = String>) -> String {
+    lines.into_iter().map(|line| line + "\n").collect()
+}
+
+fn expectations(header: Vec<String>, entries: &[Entry]) -> String {
+    text(header.into_iter().chain(entries.iter().map(Entry::line)))
+}
+
+fn inputs(entries: &[Entry]) -> String {
+    text(entries.iter().map(Entry::input))
+}
+
+fn outputs(entries: &[Entry]) -> String {
+    text(entries.iter().map(Entry::output))
+}
+
+/// The paths, from the repository's root, and the contents of the files.
+pub fn files() -> Vec<(&'static str, String)> {
+    let (runs, admissions) = (runs::entries(), admissions::entries());
+    let bench = admissions::bench_entries();
+    let unswept: Vec<Entry> = admissions.iter().map(|entry| entry.without("sweeps")).collect();
+    vec![
+        ("docs/src/expect/words.txt", text(words::lines())),
+        ("docs/src/expect/runs.txt", expectations(runs::header(), &runs)),
+        ("docs/src/expect/admissions.txt", expectations(admissions::header(), &admissions)),
+        ("docs/src/expect/bench.txt", expectations(admissions::bench_header(), &bench)),
+        ("crates/check_words/stdout", text(words::read_and_written())),
+        ("crates/check_values/stdout", text(values::lines())),
+        ("crates/check_runs/stdin", inputs(&runs)),
+        ("crates/check_runs/stdout", outputs(&runs)),
+        ("crates/check_admissions/stdin", inputs(&unswept)),
+        ("crates/check_admissions/stdout", outputs(&unswept)),
+        ("crates/check_bench/stdin", inputs(&bench)),
+        ("crates/check_bench/stdout", outputs(&bench)),
+    ]
+}

@@ -1,0 +1,189 @@
+//! The examples in C and for the shell, compiled and run: what they print is what the guide and the samples say. Those in
+//! Rust are run as documentation of the crate. And the header: as C and as C++, with the numbers and texts of the crate.
+
+use riptide::{admit, table_length, text, AdmitAnswer, MAP_BYTES, STATE_BYTES};
+use riptide_reference::programs::{bytes_of, map_of};
+use std::fs;
+use std::path::{Path, PathBuf};
+use std::process::{Command, Stdio};
+
+fn root() -> &'static Path {
+    Path::new(concat!(env!("CARGO_MANIFEST_DIR"), "/../.."))
+}
+
+fn read(name: &str) -> String {
+    let path = root().join(name);
+    fs::read_to_string(&path).unwrap_or_else(|e| panic!("{}: {e}", path.display()))
+}
+
+/// A program's output, from an input of the repository; it runs in the root.
+fn output(program: &mut Command, input: Stdio) -> String {
+    let run = program.current_dir(root()).stdin(input).stderr(Stdio::inherit()).output();
+    String::from_utf8(run.expect("it runs").stdout).expect("text")
+}
+
+/// The program of a source, compiled without a warning.
+fn compiled(compiler: [&str; 2], source: &Path) -> PathBuf {
+    let name = source.file_name().expect("a file").to_str().expect("text");
+    let program = Path::new(env!("CARGO_TARGET_TMPDIR")).join(format!("{name}.out"));
+    let status = Command::new(compiler[0])
+        .args([compiler[1], "-Wall", "-Wextra", "-Werror", "-pedantic", "-Iinclude"])
+        .arg(source)
+        .args([env!("RIPTIDE_ARCHIVE"), "-o"])
+        .arg(&program)
+        .current_dir(root())
+        .status();
+    assert!(status.expect(compiler[0]).success(), "{}", source.display());
+    program
+}
+
+const C: [&str; 2] = ["cc", "-std=c99"];
+const CPP: [&str; 2] = ["c++", "-std=c++11"];
+
+/// A source of its own, with this text.
+fn source(name: &str, text: &str) -> PathBuf {
+    let path = Path::new(env!("CARGO_TARGET_TMPDIR")).join(name);
+    fs::write(&path, text).expect("written");
+    path
+}
+
+/// The fenced parts of a text: their language and what is in them.
+fn fences(text: &str) -> Vec<(String, String)> {
+    let mut parts = Vec::new();
+    let mut lines = text.lines();
+    while let Some(line) = lines.next() {
+        let Some(language) = line.strip_prefix("```") else { continue };
+        let inside = lines.by_ref().take_while(|line| *line != "```");
+        parts.push((language.to_string(), inside.map(|line| format!("{line}\n")).collect()));
+    }
+    parts
+}
+
+/// The parts of the guide in a language, each with the text behind it, which is what it prints.
+fn examples(language: &str) -> Vec<(String, String)> {
+    let parts = fences(&read("docs/USING.md"));
+    let behind = parts.iter().skip(1).map(Some).chain([None]);
+    let mut found = Vec::new();
+    for (part, prints) in parts.iter().zip(behind).filter(|(part, _)| part.0 == language) {
+        match prints {
+            Some((kind, prints)) if kind == "text" => found.push((part.1.clone(), prints.clone())),
+            _ => panic!("the guide does not say what this prints: {}", part.1),
+        }
+    }
+    assert!(!found.is_empty(), "{language}");
+    found
+}
+
+#[test]
+fn the_guide_in_c() {
+    for (number, (text, prints)) in examples("c").iter().enumerate() {
+        let program = compiled(C, &source(&format!("using{number}.c"), text));
+        assert_eq!(output(&mut Command::new(program), Stdio::null()), *prints);
+    }
+}
+
+#[test]
+fn the_guide_in_a_shell() {
+    if !root().join("target/bin/bench").exists() {
+        println!("skipped: there is no target/bin/bench, which `rt check bench` writes");
+        return;
+    }
+    for (text, prints) in examples("sh") {
+        assert_eq!(output(Command::new("sh").args(["-euc", &text]), Stdio::null()), prints);
+    }
+    let refused = "target/bin/bench < samples/odometer.bin; echo $?";
+    let printed = output(Command::new("sh").args(["-uc", refused]), Stdio::null());
+    assert_eq!(printed, "refused 28 depth 0 address 3\n0\n");
+}
+
+#[test]
+fn the_station_in_c() {
+    let program = compiled(C, Path::new("hosts/c/station.c"));
+    let station = |name: &str| {
+        let input = fs::File::open(root().join(name)).expect(name);
+        output(&mut Command::new(&program), input.into())
+    };
+    assert_eq!(station("samples/indicator.bin"), "admitted, left 1 0 right 0 1\nran 1000 steps, stop 0\n");
+    assert_eq!(
+        station("samples/odometer.bin"),
+        "refused 28 depth 0 address 3: an address or a CALL's page is not known\n"
+    );
+    let short = source("short.bin", &"\0".repeat(131));
+    assert_eq!(
+        station(short.to_str().expect("text")),
+        "refused 11: the image is not 2 to 16,384 bytes, or of odd length\n"
+    );
+}
+
+/// Prints the header's version, lengths and numbers, and the text of every number.
+const HEADER: &str = r#"
+#include <stdio.h>
+#include "riptide.h"
+
+int main(void)
+{
+    const unsigned lengths[] = {RIPTIDE_VERSION, RIPTIDE_MAP_BYTES, 4 * RIPTIDE_SET_BYTES, RIPTIDE_STATE_BYTES,
+        RIPTIDE_MOST_IMAGE_BYTES, RIPTIDE_WORD_BYTES * RIPTIDE_MOST_WORDS, RIPTIDE_TABLE_WORD_BYTES,
+        9 * RIPTIDE_TABLE_RECORD_BYTES, RIPTIDE_PAIR_BYTES, RIPTIDE_TRACE_RECORD_BYTES,
+        RIPTIDE_REFUSED_IMAGE, RIPTIDE_REFUSED_MAP, RIPTIDE_REFUSED_TABLE, RIPTIDE_REFUSED_STATE,
+        RIPTIDE_REFUSED_RECORDING, RIPTIDE_REFUSED_TRACE, RIPTIDE_REFUSED_INPUT, RIPTIDE_OUTSIDE_CODE,
+        RIPTIDE_INVALID_WORD, RIPTIDE_NOT_READABLE, RIPTIDE_NOT_WRITABLE, RIPTIDE_NOT_LISTED, RIPTIDE_STACK_FULL,
+        RIPTIDE_STACK_EMPTY, RIPTIDE_NOT_KNOWN, RIPTIDE_XEC_OF_XEC};
+    size_t i;
+    unsigned number;
+    puts(RIPTIDE_VERSION_TEXT);
+    for (i = 0; i < sizeof lengths / sizeof lengths[0]; i++)
+        printf("%u ", lengths[i]);
+    printf("%lu\n", (unsigned long)RIPTIDE_TABLE_BYTES(7));
+    for (number = 0; number < 256; number++)
+        printf("%u %d %s\n", number, riptide_is_refusal(number), riptide_text(number));
+    return (int)RIPTIDE_NUMBER(riptide_read_word(0));
+}
+"#;
+
+#[test]
+fn the_header_in_c_and_cpp() {
+    let mut expected = format!("{}\n10000 ", env!("CARGO_PKG_VERSION"));
+    expected += &format!("{MAP_BYTES} {MAP_BYTES} {STATE_BYTES} 16384 16384 144 144 2 4 ");
+    expected += "11 12 13 14 15 16 18 21 22 23 24 25 26 27 28 29 ";
+    expected += &format!("{}\n", table_length(&[0; 7]));
+    for number in 0..=255 {
+        let refusal = u8::from((11..=18).contains(&number));
+        expected += &format!("{number} {refusal} {}\n", text(number));
+    }
+    for (compiler, name) in [(C, "header.c"), (CPP, "header.cpp")] {
+        let program = compiled(compiler, &source(name, HEADER));
+        assert_eq!(output(&mut Command::new(program), Stdio::null()), expected);
+    }
+}
+
+/// The example that the guide has for each finding: words, the map's sets if not all ones, and the cell.
+#[test]
+fn findings_of_the_guide() {
+    let guide = read("docs/USING.md");
+    let all: Vec<u8> = (0..=255).collect();
+    let all: [&[u8]; 4] = [&all; 4];
+    let none: &[u8] = &[];
+    let findings: [(u8, &str, [&[u8]; 4], (u8, u16)); 10] = [
+        (21, "0000", all, (0, 0)),
+        (22, "0008 E000", all, (0, 0)),
+        (23, "C705 1700 E001", [none, &[5], all[2], all[3]], (0, 1)),
+        (24, "C705 B723 E001 D721 E001", [&[5], none, all[2], all[3]], (0, 3)),
+        (25, "CF0A E000", [all[0], all[1], &[9], &[9]], (0, 0)),
+        (26, "A700 E001", all, (8, 0)),
+        (27, "AF00 E000", all, (0, 0)),
+        (28, "1707 E000", all, (0, 0)),
+        (29, "8000 E000", all, (0, 0)),
+        (25, "9722 E000 0000 CF0A", [&[0], none, &[9], none], (0, 0)),
+    ];
+    let answer = |text: &str, sets| {
+        assert!(guide.contains(&format!("`{text}`")), "{text}");
+        let words: Vec<u16> = text.split(' ').map(|word| u16::from_str_radix(word, 16).expect(word)).collect();
+        let image = bytes_of(&words);
+        admit(&image, &map_of(sets), &mut vec![0; table_length(&image)])
+    };
+    for (number, words, sets, (depth, address)) in findings {
+        assert_eq!(answer(words, sets), AdmitAnswer::Found { number, depth, address }, "{words}");
+    }
+    assert_eq!(answer("0000 E000", all), AdmitAnswer::Admitted);
+}
