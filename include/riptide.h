@@ -129,7 +129,7 @@ uint64_t riptide_admit(const uint8_t *image, size_t image_length, const uint8_t 
                        size_t table_length);
 
 #define RIPTIDE_DEPTH(n) ((unsigned)((n) >> 8 & 0xff))
-#define RIPTIDE_ADDRESS(n) ((unsigned)((n) >> 16))
+#define RIPTIDE_ADDRESS(n) ((unsigned)((n) >> 16 & 0xffff))
 
 /* Runs a program from a state over a recording, one word for each pair, until the machine stops. Writes the state
  * afterwards and a trace record for each step; later trace bytes stay. RIPTIDE_COUNT is the count of records and

@@ -183,13 +183,19 @@ answer-apart (Found number depth address) r =
     let q : bitsFrom 16 16 n ≡ address = part-apart 16 16 0 address (number + depth * 256) (omega arith) (omega (arith, r .3)) (omega (arith, r .1, r .2)) in
     rw (z, ne-eqb number 0 (omega (arith, r .0)), no-refusal number (inr (r .0))) (λ k. Found number (p k) (q k))
 
+admitted-in : (n : ℕ) → numberIn n ≡ 0 → admitAnswerIn n ≡ Admitted
+admitted-in n z = rw (eq-eqb (numberIn n) 0 z)
+
 module _ (image map table : List ℕ) where
   pub admit-apart : admitAnswerIn (admitNumber (admitResult image map table .answer)) ≡ admitResult image map table .answer
   admit-apart = answer-apart (admitResult image map table .answer) (answer-ranged image map table)
 
-  -- the number is 0 exactly where the answer is admitted
+  -- the low byte, and so the whole number, is 0 exactly where the answer is admitted
+  pub admit-low : (numberIn (admitNumber (admitResult image map table .answer)) ≡ 0) ↔ (admitResult image map table .answer ≡ Admitted)
+  admit-low = (λ z. sym admit-apart ∙ admitted-in _ z, λ e. ap (λ (a : AdmitAnswer). numberIn (admitNumber a)) e)
+
   pub admit-zero : (admitNumber (admitResult image map table .answer) ≡ 0) ↔ (admitResult image map table .answer ≡ Admitted)
-  admit-zero = (λ z. sym admit-apart ∙ ap admitAnswerIn z, λ e. ap admitNumber e)
+  admit-zero = (λ z. admit-low .0 (ap numberIn z), λ e. ap admitNumber e)
 
 -- ---- runs
 

@@ -1,4 +1,4 @@
--- Demand 3 from the moment when riptide_admit gave 0. Assumes nothing.
+-- Demand 3 from the moment when riptide_admit's number is 0. Assumes nothing.
 use mathlib.Core.List.{List}
 use mathlib.Core.Path.{_≡_, ap, _∙_, subst⁻¹}
 use Prim.Native.Nat.{ℕ, _*_, _^_, _<_}
@@ -13,7 +13,7 @@ use Rattle.guarantee.specs.Demand.{Job, Executes, TurnedAway, Flawless, finishe
 use Rattle.guarantee.proofs.Admitted.{admitted-demand}
 use Rattle.riptide.specs.Numbers.{runNumber}
 use Rattle.riptide.specs.Calls.{Countable, noJob, fewPairs, runGives, Calls, noMore, gavePairs, gaveRefusal, AdmittedCalls}
-use Rattle.riptide.proofs.Apart.{admit-zero}
+use Rattle.riptide.proofs.Apart.{admit-low}
 
 module _ {image map table : List ℕ} where
   gives-pairs : {state : List ℕ} {job : Job} → pairCount (job .recording) < 2 ^ 56 → Executes image map table state job
@@ -37,6 +37,6 @@ admitted-calls image map table state bytes z long =
       done .0,
       λ jobs few.
           let flawless = subst⁻¹ (λ (s : List ℕ). Flawless image map (admitResult image map table .table) s jobs) (done .1)
-          (admitted-demand image map table bytes (admit-zero image map table .0 z) jobs) in
+          (admitted-demand image map table bytes (admit-low image map table .0 z) jobs) in
           (flawless, calls few flawless),
     )

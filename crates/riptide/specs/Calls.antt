@@ -1,4 +1,4 @@
--- Demand 3 in the numbers that C and Rust see: what holds from the moment when riptide_admit gave 0.
+-- Demand 3 in the numbers that C and Rust see: what holds from the moment when riptide_admit gave the number 0.
 use mathlib.Core.Path.{_≡_}
 use mathlib.Core.List.{List, [], _∷_}
 use Prim.Native.Nat.{ℕ, _*_, _^_, _<_}
@@ -7,7 +7,7 @@ use Rattle.state.specs.State.{stateLength, resetNumberOf, resetState}
 use Rattle.emulator.specs.Run.{pairCount, runResult}
 use Rattle.admission.specs.Admission.{admitResult}
 use Rattle.guarantee.specs.Demand.{Bytes, Job, Fault, Flawless}
-use Rattle.riptide.specs.Numbers.{admitNumber, runNumber}
+use Rattle.riptide.specs.Numbers.{admitNumber, runNumber, numberIn}
 
 -- What riptide_admit and riptide_run give: their contracts equate their results with these.
 abbrev pub admitGives : List ℕ → List ℕ → List ℕ → ℕ
@@ -33,10 +33,10 @@ pub data Calls (image map : List ℕ) : List ℕ → List Job → Type 0 where
       → runResult image map state (job .recording) (job .trace) .trace ≡ job .trace
       → Calls image map (runResult image map state (job .recording) (job .trace) .state) jobs → Calls image map state (job ∷ jobs)
 
--- After riptide_admit gave 0: riptide_reset gives 0 for every state of 36 bytes, and from the bytes that it leaves every
--- list of runs is flawless, in the sense of demand 3, and gives those numbers.
+-- After riptide_admit gave 0 (RIPTIDE_NUMBER says it): riptide_reset gives 0 for every state of 36 bytes, and from the
+-- bytes that it leaves every list of runs is flawless, in the sense of demand 3, and gives those numbers.
 abbrev pub AdmittedCalls : List ℕ → List ℕ → List ℕ → List ℕ → Type 0
 AdmittedCalls image map table state =
-    Bytes image → admitGives image map table ≡ 0 → length state ≡ stateLength
+    Bytes image → numberIn (admitGives image map table) ≡ 0 → length state ≡ stateLength
     → (resetNumberOf state ≡ 0) × ((jobs : List Job) → Countable jobs
     → Flawless image map (admitResult image map table .table) (resetState state) jobs × Calls image map (resetState state) jobs)

@@ -187,3 +187,56 @@ fn findings_of_the_guide() {
     }
     assert_eq!(answer("0000 E000", all), AdmitAnswer::Admitted);
 }
+
+/// Bytes in hexadecimal, where `00*9` is nine bytes 00.
+fn bytes_in(text: &str) -> Vec<u8> {
+    let byte = |digits: &str| u8::from_str_radix(digits, 16).expect(digits);
+    let repeated = |item: &str| match item.split_once('*') {
+        Some((digits, times)) => vec![byte(digits); times.parse().expect(times)],
+        None => vec![byte(item)],
+    };
+    text.split_whitespace().flat_map(repeated).collect()
+}
+
+/// Puts the image, map and recording of the formats through the library, and prints what comes out.
+const FORMATS: &str = r#"
+int main(void)
+{
+    static uint8_t table[RIPTIDE_TABLE_BYTES(sizeof image)], table2[RIPTIDE_TABLE_BYTES(sizeof image2)];
+    uint8_t state[RIPTIDE_STATE_BYTES], trace[sizeof recording / RIPTIDE_PAIR_BYTES * RIPTIDE_TRACE_RECORD_BYTES];
+    uint64_t numbers[5];
+    int i;
+    riptide_reset(state, sizeof state);
+    numbers[0] = riptide_read_word(0x173f);
+    numbers[1] = riptide_count_sets(map, sizeof map);
+    numbers[2] = riptide_admit(image, sizeof image, map, sizeof map, table, sizeof table);
+    numbers[3] = riptide_run(image, sizeof image, map, sizeof map, state, sizeof state, recording, sizeof recording,
+                             trace, sizeof trace);
+    numbers[4] = riptide_admit(image2, sizeof image2, map2, sizeof map2, table2, sizeof table2);
+    fwrite(trace, 1, sizeof trace, stdout);
+    fwrite(state, 1, sizeof state, stdout);
+    fwrite(table + RIPTIDE_TABLE_RECORD_BYTES * 2, 1, RIPTIDE_TABLE_RECORD_BYTES, stdout);
+    fwrite(table2 + RIPTIDE_TABLE_RECORD_BYTES * 3, 1, RIPTIDE_TABLE_RECORD_BYTES, stdout);
+    for (i = 0; i < 5; i++)
+        printf("%016llX\n", (unsigned long long)numbers[i]);
+    return 0;
+}
+"#;
+
+#[test]
+fn the_formats_in_c() {
+    let parts = fences(&read("docs/FORMATS.md"));
+    let part = |name: &str| &parts.iter().find(|part| part.0 == name).expect(name).1;
+    let odometer = fs::read(root().join("samples/odometer.bin")).expect("sample");
+    let (map2, image2) = odometer.split_at(MAP_BYTES);
+    let mut text = String::from("#include <stdio.h>\n#include \"riptide.h\"\n");
+    let given = ["image", "map", "recording"].map(|name| (name, bytes_in(part(name))));
+    for (name, bytes) in given.into_iter().chain([("map2", map2.to_vec()), ("image2", image2.to_vec())]) {
+        text += &format!("static const uint8_t {name}[] = {{{}}};\n", format!("{bytes:?}").trim_matches(['[', ']']));
+    }
+    let program = compiled(C, &source("formats.c", &(text + FORMATS)));
+    let printed = Command::new(program).output().expect("it runs").stdout;
+    let mut expected = ["trace", "state", "record", "odometer"].map(|name| bytes_in(part(name))).concat();
+    expected.extend(part("numbers").bytes());
+    assert_eq!(printed, expected);
+}
