@@ -2,16 +2,13 @@
 use mathlib.Core.Bool.{true, false}
 use mathlib.Core.List.{List}
 use mathlib.Core.Path.{_≡_, sym, ap, ap₂, _∙_, subst⁻¹}
-use Prim.Native.Nat.{ℕ, _*_, _%_, _<_}
-use native.Mathlib.Omega.{arith}
-use borrow.Author.Tests.{leb-true, eq-eqb, ne-eqb}
-use lib.Dec.{leb, eqb}
+use Prim.Native.Nat.{ℕ, _*_, _<_}
+use borrow.Author.Tests.{eq-eqb, ne-eqb}
 use lib.ListN.{length, getD}
-use Rattle.choice.proofs.Laws.{and-first, and-second}
 use Rattle.map.specs.Map.{mapLength}
 use Rattle.machine.specs.Step.{wordCount}
 use Rattle.emulator.specs.Run.{imageFits}
-use Rattle.emulator.proofs.Door.{image-words}
+use Rattle.emulator.proofs.Door.{image-some, image-words}
 use Rattle.facts.specs.Record.{depths}
 use Rattle.callers.specs.Callers.{Held}
 use Rattle.transfer.specs.Passes.{tableLength, leastTable}
@@ -19,13 +16,6 @@ use Rattle.transfer.proofs.TableLaws.{least-table}
 use Rattle.admission.specs.declared.AdmitAnswer.{AdmitAnswer}
 use Rattle.admission.specs.declared.AdmitAnswer.the-variants.{Refused}
 use Rattle.admission.specs.Admission.{withFindings, filledTable, verdictOf, resulting, admitResult}
-
--- what question 11 says of the number of words
-pub image-some : (image : List ℕ) → imageFits image ≡ true → 0 < wordCount image
-unfolding imageFits
-image-some image h =
-    let least = leb-true 2 (length image) (and-first (leb 2 (length image)) _ (and-second (eqb (length image % 2) 0) _ h)) in
-    omega arith
 
 module _ (image map table : List ℕ) where
   pub refused-11 : imageFits image ≡ false → resulting (Refused 11) table ≡ admitResult image map table

@@ -11,6 +11,7 @@ use Rattle.choice.specs.Choice.{pick}
 use Rattle.map.specs.Map.{mapLength}
 use Rattle.machine.specs.Step.{wordCount}
 use Rattle.emulator.specs.Run.{imageFits}
+use Rattle.emulator.proofs.Door.{image-some}
 use Rattle.facts.specs.Record.{recordSize, depths, recordOf, cellAt, FineCell, Layout}
 use Rattle.facts.proofs.Records.{part, part-at, same-table}
 use Rattle.transfer.specs.Passes.{tableLength, leastTable}
@@ -22,7 +23,7 @@ use Rattle.admission.specs.Admission.{filledTable, verdictOf, AdmitResul
 use Rattle.admission.proofs.Same.{SameCells, finding-same}
 use Rattle.admission.proofs.Marking.{Marking, marked-all}
 use Rattle.admission.proofs.Verdict.{clear-admitted, admitted-clear}
-use Rattle.admission.proofs.Door.{image-some, let-in}
+use Rattle.admission.proofs.Door.{let-in}
 
 -- ---- the table: the cells of the least table, and each record with its finding
 

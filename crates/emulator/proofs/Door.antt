@@ -2,12 +2,12 @@
 use mathlib.Core.Bool.{true, false}
 use mathlib.Core.List.{List}
 use mathlib.Core.Path.{_≡_, sym, ap, _∙_}
-use Prim.Native.Nat.{ℕ, _*_, _%_, _≤_}
+use Prim.Native.Nat.{ℕ, _*_, _%_, _≤_, _<_}
 use native.Mathlib.Omega.{arith}
 use borrow.Author.Tests.{leb-true, eq-eqb, ne-eqb}
 use lib.Dec.{leb, eqb}
 use lib.ListN.{length}
-use Rattle.choice.proofs.Laws.{and-second}
+use Rattle.choice.proofs.Laws.{and-first, and-second}
 use Rattle.map.specs.Map.{mapLength}
 use Rattle.state.specs.declared.State.{State}
 use Rattle.state.specs.State.{stateLength, EachBelow, loaded, stored, wellFormed}
@@ -56,6 +56,12 @@ unfolding imageFits
 image-words image h =
     let most = leb-true (length image) 16384
     (and-second (leb 2 (length image)) _ (and-second (eqb (length image % 2) 0) _ h)) in
+    omega arith
+
+pub image-some : (image : List ℕ) → imageFits image ≡ true → 0 < wordCount image
+unfolding imageFits
+image-some image h =
+    let least = leb-true 2 (length image) (and-first (leb 2 (length image)) _ (and-second (eqb (length image % 2) 0) _ h)) in
     omega arith
 
 module _ (state : List ℕ) where

@@ -6,7 +6,7 @@ use Prim.Native.Nat.{ℕ}
 use Rattle.state.specs.State.{resetBytes}
 use Rattle.admission.specs.declared.AdmitAnswer.the-variants.{Admitted}
 use Rattle.admission.specs.Admission.{filledTable, AdmitResult, admitResult, Cleared}
-use Rattle.admission.proofs.Door.{image-some}
+use Rattle.emulator.proofs.Door.{image-some}
 use Rattle.admission.proofs.Filled.{filled-clear, clear-filled, cleared-admitted, admitted-cleared, admitted-table}
 use Rattle.guarantee.specs.Demand.{Flawless, Demand, AdmittedRuns}
 use Rattle.guarantee.proofs.Demand3.{demand-3}

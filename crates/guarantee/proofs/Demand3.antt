@@ -1,24 +1,24 @@
 -- Demand 3 for every closed table, and so for the least one.
 use mathlib.Core.Path.{_≡_, refl, _∙_, ap, subst, subst⁻¹}
-use mathlib.Core.Bool.{Bool, true, false, _&&_, false≢true}
+use mathlib.Core.Bool.{Bool, true, false, false≢true}
 use mathlib.Core.List.{List, [], _∷_}
-use Prim.Native.Nat.{ℕ, zero, suc, _%_, _≤_, _<_}
+use Prim.Native.Nat.{ℕ, zero, suc, _%_, _<_}
 use native.Mathlib.Omega.{arith}
-use lib.Dec.{eqb, leb}
 use lib.ListN.{length, getD}
-use borrow.Author.Tests.{eq-eqb, eqb-true, leb-true}
+use borrow.Author.Tests.{eq-eqb, eqb-true}
 use Rattle.choice.specs.Choice.{pick, firstNo}
-use Rattle.choice.proofs.Laws.{and-both, and-first, and-second}
+use Rattle.choice.proofs.Laws.{and-both}
 use Rattle.map.specs.Map.{mapLength}
 use Rattle.state.specs.declared.State.{State}
 use Rattle.state.specs.State.{stateLength, stored, wellFormed, zeroState}
 use Rattle.state.proofs.Laws.{stored-length}
 use Rattle.state.proofs.RoundTrip.{store-then-load, reset-stored}
 use Rattle.state.proofs.WellFormed.{formed}
-use Rattle.machine.specs.Step.{wordCount, stepQuestions, stepped}
+use Rattle.machine.specs.Step.{stepQuestions, stepped}
 use Rattle.machine.proofs.Keeps.{step-formed}
 use Rattle.emulator.specs.declared.RunAnswer.the-variants.{Ended}
 use Rattle.emulator.specs.Run.{RunResult, pairCount, imageFits, stateFits, recordingFits, traceFits, ranOver, refused, ended, runResult}
+use Rattle.emulator.proofs.Door.{image-some, image-words}
 use Rattle.flow.specs.Flow.{Closed}
 use Rattle.facts.specs.Record.{resetCell}
 use Rattle.transfer.specs.Passes.{tableSpace, leastTable}
@@ -28,15 +28,6 @@ use Rattle.guarantee.specs.Safe.{Safe}
 use Rattle.guarantee.specs.Demand.{Bytes, Job, Steps, ends, goes, Fault, odd, short, Flawless, finished, executes, turnedAway, Demand}
 use Rattle.guarantee.proofs.StepSafe.{step-safe}
 use Rattle.guarantee.proofs.ResetSafe.{reset-safe}
-
--- what question 11 says of the number of words
-words-near : (image : List ℕ) → imageFits image ≡ true → (1 ≤ wordCount image) × (wordCount image ≤ 8192)
-unfolding imageFits
-words-near image h =
-    let sized = and-second (eqb (length image % 2) 0) (leb 2 (length image) && leb (length image) 16384) h in
-    let least = leb-true 2 (length image) (and-first (leb 2 (length image)) (leb (length image) 16384) sized) in
-    let most = leb-true (length image) 16384 (and-second (leb 2 (length image)) (leb (length image) 16384) sized) in
-    (omega arith, omega arith)
 
 pair-bytes : (left right : ℕ) → left < 256 → right < 256 → (k : ℕ) → getD (left ∷ right ∷ []) k 0 < 256
 pair-bytes left right l r zero = l
@@ -49,7 +40,7 @@ module _ (image map table : List ℕ) (bytes : Bytes image) (fits : imageFits im
       → (firstNo (stepQuestions image map (left ∷ right ∷ []) s) ≡ 0) × Safe image table (stepped image map (left ∷ right ∷ []) s .state)
   pair-safe left right l r s safe =
       step-safe image map table closed clean bytes (left ∷ right ∷ [])
-      (λ s f z run. step-formed image map (left ∷ right ∷ []) s (words-near image fits .1) bytes (pair-bytes left right l r) f z)
+      (λ s f z run. step-formed image map (left ∷ right ∷ []) s (image-words image fits) bytes (pair-bytes left right l r) f z)
       s safe
 
   -- the steps over a recording, and that the run over it takes them all
@@ -144,8 +135,8 @@ module _ (image map table : List ℕ) (bytes : Bytes image) (fits : imageFits im
 pub demand-closed : (image map table : List ℕ) → Closed (tableSpace image) resetCell table → Demand image map table
 demand-closed image map table closed bytes fits long clean jobs =
     subst (λ (b : List ℕ). Flawless image map table b jobs) reset-stored
-    (flawless-from image map table bytes fits long closed clean jobs zeroState (reset-safe image table closed (words-near image fits .0)))
+    (flawless-from image map table bytes fits long closed clean jobs zeroState (reset-safe image table closed (image-some image fits)))
 
 pub demand-3 : (image map : List ℕ) → Demand image map (leastTable image)
 demand-3 image map bytes fits long clean jobs =
-    demand-closed image map (leastTable image) (least-table image bytes (words-near image fits .0) .closed) bytes fits long clean jobs
+    demand-closed image map (leastTable image) (least-table image bytes (image-some image fits) .closed) bytes fits long clean jobs

@@ -9,7 +9,7 @@ use borrow.Author.Tests.{eq-eqb}
 use Rattle.state.specs.State.{stateLength, resetBytes, resetNumberOf, resetState}
 use Rattle.emulator.specs.Run.{pairCount}
 use Rattle.admission.specs.Admission.{admitResult}
-use Rattle.guarantee.specs.Demand.{Job, Executes, TurnedAway, Flawless, finished, executes, turnedAway}
+use Rattle.guarantee.specs.Demand.{Job, Executes, Flawless, finished, executes, turnedAway}
 use Rattle.guarantee.proofs.Admitted.{admitted-demand}
 use Rattle.riptide.specs.Numbers.{runNumber}
 use Rattle.riptide.specs.Calls.{Countable, noJob, fewPairs, runGives, Calls, noMore, gavePairs, gaveRefusal, AdmittedCalls}

@@ -4,8 +4,8 @@ use native.Mathlib.Omega.{arith}
 use denote.Ref.{now}
 use borrow.Author.Needs.{needs}
 use borrow.Author.Tests.{not-true, not-false}
-use Rattle.emulator.proofs.Door.{image-words}
-use Rattle.admission.proofs.Door.{image-some, refused-11, refused-12, refused-13, yields, least-held}
+use Rattle.emulator.proofs.Door.{image-some, image-words}
+use Rattle.admission.proofs.Door.{refused-11, refused-12, refused-13, yields, least-held}
 use Rattle.admission.proofs.admit.Statement.{statement}
 use Rattle.admission.proofs.admit.Tie as tie
 
