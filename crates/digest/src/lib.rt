@@ -1,10 +1,14 @@
 // What test programs share with the reference in another language: the FNV-1a digest of 64 bits, and the bytes of a
 // linear congruential generator.
 ghost use mathlib.Core.Path.{_≡_};
-ghost use Prim.Native.Nat.{_*_, _+_, _%_, _<_};
+ghost use Prim.Native.Nat.{_*_, _%_, _<_};
+ghost use lib.ListN.{length};
+ghost use Rattle.digest.specs.Digest.{emptyDigest, digestByte, digestOf, nextNumber, numberByte, generated, inTurn};
 
 // The digest of no bytes.
-pub fn none() -> u64 {
+pub fn none() -> u64
+    ensures { λ r. ⌜ r ≡ emptyDigest ⌝ }
+{
     14695981039346656037
 }
 
@@ -17,15 +21,22 @@ fn times_prime(h: u64) -> u64
     high % 4294967296 * 4294967296 + low % 4294967296
 }
 
-fn wide(x: u8) -> u64 {
+fn wide(x: u8) -> u64
+    ensures { λ r. ⌜ r ≡ x ⌝ }
+{
     x as u64
 }
 
-pub fn add_byte(h: u64, byte: u8) -> u64 {
+fn add_byte(h: u64, byte: u8) -> u64
+    ensures { λ r. ⌜ r ≡ digestByte h byte ⌝ }
+{
     times_prime(h ^ wide(byte))
 }
 
-pub fn add(h: u64, bytes: &[u8]) -> u64 {
+// The digest h gone on over the bytes.
+pub fn add(h: u64, bytes: &[u8]) -> u64
+    ensures { λ r. ⌜ r ≡ digestOf h (now (bytes .entry)) ⌝ }
+{
     let mut sum = h;
     let mut i = 0;
     while i < bytes.len() {
@@ -38,19 +49,22 @@ pub fn add(h: u64, bytes: &[u8]) -> u64 {
 // The generator's next number.
 pub fn next(x: u64) -> u64
     requires { ⌜ x < 4294967296 ⌝ }
-    ensures { λ r. ⌜ (r ≡ (x * 1103515245 + 12345) % 4294967296) × (r < 4294967296) ⌝ }
+    ensures { λ r. ⌜ r ≡ nextNumber x ⌝ }
 {
     (x * 1103515245 + 12345) % 4294967296
 }
 
 // The byte that a number of the generator gives.
-pub fn byte_of(x: u64) -> u8 {
+pub fn byte_of(x: u64) -> u8
+    ensures { λ r. ⌜ r ≡ numberByte x ⌝ }
+{
     (x / 65536 % 256) as u8
 }
 
 // Fills a slice with the generator's bytes from a seed on.
 pub fn generate(seed: u64, out: &mut [u8])
     requires { ⌜ seed < 4294967296 ⌝ }
+    ensures { λ _. ⌜ now (out .exit) ≡ generated seed (length (now (out .entry))) ⌝ }
 {
     let mut x = seed;
     let mut i = 0;
@@ -61,19 +75,18 @@ pub fn generate(seed: u64, out: &mut [u8])
     }
 }
 
-// One of a word's two bytes, by the place.
-fn half(high: u8, low: u8, i: usize) -> u8 {
-    if i % 2 == 0 {
-        return high;
-    }
-    low
-}
-
 // Fills a slice with a word's two bytes in turn.
-pub fn repeat(high: u8, low: u8, out: &mut [u8]) {
+pub fn repeat(high: u8, low: u8, out: &mut [u8])
+    ensures { λ _. ⌜ now (out .exit) ≡ inTurn high low (length (now (out .entry))) ⌝ }
+{
+    let mut a = high;
+    let mut b = low;
     let mut i = 0;
     while i < out.len() {
-        out[i] = half(high, low, i);
+        out[i] = a;
+        let c = a;
+        a = b;
+        b = c;
         i += 1;
     }
 }

@@ -12,6 +12,7 @@
 //!   bytes, high byte first; words that are invalid are left out
 
 pub mod admissions;
+pub mod library;
 pub mod runs;
 pub mod values;
 pub mod words;

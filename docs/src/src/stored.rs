@@ -1,7 +1,7 @@
 //! Every stored file that comes from this reference: the expectations, and
 //! what the programs of the gate read and must write.
 
-use crate::cases::{admissions, runs, values, words, Entry};
+use crate::cases::{admissions, library, runs, values, words, Entry};
 
 fn text(lines: impl IntoIterator<Item = String>) -> String {
     lines.into_iter().map(|line| line + "\n").collect()
@@ -22,7 +22,7 @@ fn outputs(entries: &[Entry]) -> String {
 /// The paths, from the repository's root, and the contents of the files.
 pub fn files() -> Vec<(&'static str, String)> {
     let (runs, admissions) = (runs::entries(), admissions::entries());
-    let bench = admissions::bench_entries();
+    let (bench, library) = (admissions::bench_entries(), library::entries());
     let unswept: Vec<Entry> = admissions.iter().map(|entry| entry.without("sweeps")).collect();
     vec![
         ("docs/src/expect/words.txt", text(words::lines())),
@@ -37,5 +37,7 @@ pub fn files() -> Vec<(&'static str, String)> {
         ("crates/check_admissions/stdout", outputs(&unswept)),
         ("crates/check_bench/stdin", inputs(&bench)),
         ("crates/check_bench/stdout", outputs(&bench)),
+        ("crates/check_library/stdin", inputs(&library)),
+        ("crates/check_library/stdout", outputs(&library)),
     ]
 }

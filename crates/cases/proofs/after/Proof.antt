@@ -1,28 +1,26 @@
--- The place grows, and stays within the text.
-use borrow.Author.Needs.{needs}
+-- `cases::after` meets its contract. Assumes nothing.
 use native.Mathlib.Omega.{arith}
-use Prim.Native.Nat.{_≤_, _-_}
-use lib.ListN.{length}
+use borrow.Author.Needs.{needs}
+use denote.Ref.{now}
+use Rattle.cases.proofs.Laws.{behind-mark, at-the-end}
 use Rattle.cases.proofs.after.Statement.{statement}
 use Rattle.cases.proofs.after.Tie as tie
 
-abbrev Inv-loop : tie.InvT-loop
-Inv-loop s from mark at₀ at = (from ≤ at) × (at ≤ length s)
+returns : tie.Need-returns
+returns c =
+    let args = c .before .before .before .args in
+    let found = c .before .find .ensures .0 in
+    (omega arith, omega arith, λ h. omega arith, behind-mark (now (args .s)) (args .from) (args .mark) found (omega arith))
 
-abbrev μ-loop : tie.MeasureT-loop
-μ-loop s from mark at₀ at = length s - at
+returns-2 : tie.Need-returns-2
+returns-2 c =
+    let args = c .before .before .before .args in
+    let found = c .before .find .ensures .0 in (
+      omega arith,
+      omega arith,
+      λ h. omega arith,
+      at-the-end (now (args .s)) (args .from) (args .mark) found (omega arith) (omega arith),
+    )
 
 pub after-spec : {M : Type 1} → statement M
-after-spec =
-    tie.close
-    (tie.spec
-    Inv-loop
-    μ-loop
-    (λ c. omega arith)
-    (λ c. search needs)
-    (λ c. search needs)
-    (λ c. (omega arith, omega arith, λ h. omega arith))
-    (λ c. search needs)
-    (λ c. omega arith)
-    (λ c. omega arith)
-    (λ c. (omega arith, omega arith, λ h. omega arith)))
+after-spec = tie.close (tie.spec (λ c κs. search needs) (λ c. search needs) returns returns-2)
