@@ -58,7 +58,7 @@ all-there {before} {out} {whole} {at} p =
     let first : take at out ≡ whole = sym (append-nil (take at out)) ∙ p .parts in
     record {
       all = sym (length-take-le at out (p .room)) ∙ ap length first;
-      laid = sym (take-append-drop at out) ∙ ap₂ _++_ first (p .behind);
+      placed = sym (take-append-drop at out) ∙ ap₂ _++_ first (p .behind);
       fits = counts at out (p .room);
     }
 
@@ -68,7 +68,7 @@ pub filled-first : {bytes before new : List ℕ} {n : ℕ} → n ≤ length befo
 filled-first {bytes} {before} {new} {n} room e long =
     record {
       all = sym long;
-      laid = ap (λ (l : List ℕ). l ++ drop n before) e;
+      placed = ap (λ (l : List ℕ). l ++ drop n before) e;
       fits = counts n (new ++ drop n before) (omega (arith, length-append new (drop n before), ap length e, long));
     }
 

@@ -8,5 +8,5 @@ use Rattle.io.specs.Counts.{Counts}
 -- The bytes put at the start of `before`, which is left as `after`; their count. What stands behind them stays.
 pub record Expanded (bytes before after : List ℕ) (count : ℕ) : Type 0 where
   pub all : count ≡ length bytes
-  pub laid : after ≡ bytes ++ drop count before
+  pub placed : after ≡ bytes ++ drop count before
   pub fits : Counts count after
