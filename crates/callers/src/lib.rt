@@ -4,15 +4,16 @@ ghost use mathlib.Core.Path.{_≡_};
 ghost use Prim.Native.Nat.{_+_, _%_, _≤_, _<_};
 ghost use Rattle.choice.specs.Choice.{pick};
 ghost use Rattle.machine.specs.Shape.{sourceOf, go, defer};
-ghost use Rattle.machine.specs.Parts.{IsPage, shapeIs, FormFits};
+ghost use Rattle.machine.specs.Parts.{IsPage};
+ghost use Rattle.processor.specs.Forms.{shapeIs, FormFits};
 ghost use Rattle.machine.specs.Step.{wordCount, shapeAt};
 ghost use Rattle.facts.specs.Facts.{spanOf};
 ghost use Rattle.cells.specs.Cells.{Bounded};
 ghost use Rattle.transfer.specs.Passes.{gives, pageAddress, canBeExecuted, isCall, isReturn, some, wordsAt, isCallSite};
 ghost use Rattle.callers.specs.Callers.{spanIs, InImage, Held};
-use machine::form::Form;
-use machine::form::LONG_PAGE;
-use machine::form::SHORT_PAGE;
+use machine::go::LONG_PAGE;
+use machine::go::SHORT_PAGE;
+use processor::form::Form;
 
 // The values that a source may have: count of them from low on.
 pub struct Values {
@@ -112,7 +113,7 @@ fn performs_at(
     if image.len() / 2 <= a {
         return false;
     }
-    is_asked(machine::form_at(image, a), returns)
+    is_asked(processor::form_at(image, a), returns)
 }
 
 // The same at any place.
@@ -161,5 +162,5 @@ pub fn is_call_site(image: &[u8], table: &[u8], depth: usize, a: usize) -> bool
         return false;
     }
     let facts = c.facts;
-    performs(image, a, facts, machine::form_at(image, a), false)
+    performs(image, a, facts, processor::form_at(image, a), false)
 }

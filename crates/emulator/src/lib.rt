@@ -71,7 +71,7 @@ fn steps(
         let pair = PAIR * count;
         let left = recording[pair];
         let right = recording[pair + 1];
-        let e = machine::step(image, map, left, right, q, values, latches, returns);
+        let e = processor::step(image, map, left, right, q, values, latches, returns);
         let at = RECORD * count;
         write_record(&mut trace[at..], e);
         count += 1;

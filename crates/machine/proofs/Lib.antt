@@ -1,7 +1,6 @@
 pub mod Deliver
 pub mod Direct
 pub mod Fetching
-pub mod Forming
 pub mod Values
 pub mod InRange
 pub mod Keeps

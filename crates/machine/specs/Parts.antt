@@ -10,15 +10,9 @@ use Rattle.state.specs.declared.State.{State}
 use Rattle.state.specs.State.{stackPlaces}
 use Rattle.machine.specs.declared.Sequencer.{Sequencer}
 use Rattle.machine.specs.declared.Effect.{Effect}
-use Rattle.machine.specs.declared.Fetched.{Fetched}
-use Rattle.word.specs.declared.Word.{Word}
-use Rattle.word.specs.declared.Word.the-variants.{Invalid as Unlisted}
-use Rattle.machine.specs.declared.form.Form.{Form}
-use Rattle.machine.specs.declared.form.Form.the-variants.{Act, Jump, Branch, Defer, Call, Return, Invalid}
-use Rattle.machine.specs.declared.Fetched.the-variants.{Valid, Invalid as None}
 use Rattle.machine.specs.declared.act.Delivery.{Delivery}
-use Rattle.machine.specs.Shape.{Source, register, constant, Target, Shape, act, go, invalid, jump, branch, defer, call, return, sourceOf, targetOf, placesOf}
-use Rattle.machine.specs.Step.{Outcome, wordCount, resultOf, actState, targetTrace, mayWrite, mayChoose, cameToStop}
+use Rattle.machine.specs.Shape.{Source, constant, Target, Shape, act, sourceOf, targetOf, placesOf}
+use Rattle.machine.specs.Step.{Outcome, resultOf, actState, targetTrace, mayWrite, mayChoose, cameToStop}
 
 -- the state of a machine that is not stopped, from its sequencer, values, latches and call stack
 abbrev pub whole : Sequencer → List ℕ → List ℕ → List ℕ → State
@@ -121,42 +115,9 @@ deliverySource a = pick (eqb (a .kind) 1) (constant (a .i)) (sourceOf (a .s) (pl
 abbrev pub shapeOfDelivery : Delivery → Shape
 shapeOfDelivery a = act (deliverySource a) (a .op) (targetOf (a .d) (a .rl))
 
--- the shape that a form stands for
-abbrev pub shapeIs : Form → Shape
-shapeIs (Act a) = shapeOfDelivery a
-shapeIs (Jump a) = go (constant 0) (jump a)
-shapeIs (Branch s l page i) = go (sourceOf s 0 l) (branch page i)
-shapeIs (Defer s l page i) = go (sourceOf s 0 l) (defer page i)
-shapeIs (Call i) = go (register 0 0) (call i)
-shapeIs Return = go (constant 0) return
-shapeIs Invalid = invalid
-
--- what the code relies on: places and lengths are below 8, constants are bytes, a page is one of the two
-abbrev pub FormFits : Form → Type 0
-FormFits (Act a) = (a .rl < 8) × (a .i < 256)
-FormFits (Jump a) = Unit
-FormFits (Branch s l page i) = (l < 8) × IsPage page
-FormFits (Defer s l page i) = (l < 8) × IsPage page × (i < 256)
-FormFits (Call i) = i < 256
-FormFits Return = Unit
-FormFits Invalid = Unit
-
--- What is fetched: the decoded word, or none exactly where it is invalid.
-abbrev pub Fetches : Word → Fetched → Type 0
-Fetches word (Valid w) = (word ≡ w) × (word ≡ Unlisted → ⊥)
-Fetches word None = word ≡ Unlisted
-
 -- What a word needs to be executed: a map of its length, a PC inside an image of at most 8,192 words, a depth
 -- within the stack.
 pub record Ready (map : List ℕ) (q : Sequencer) : Type 0 where
   pub long : length map ≡ mapLength
   pub near : q .pc < 8192
-  pub shallow : q .depth ≤ stackPlaces
-
--- What a step needs: at most 8,192 words, a map of its length, and of a well-formed state that PC is near while an
--- XEC is pending, and that the depth is within the stack.
-pub record Runs (image map : List ℕ) (q : Sequencer) : Type 0 where
-  pub words : wordCount image ≤ 8192
-  pub long : length map ≡ mapLength
-  pub near : q .flag ≡ 1 → q .pc < 8192
   pub shallow : q .depth ≤ stackPlaces

@@ -7,8 +7,11 @@ ghost use Rattle.machine.specs.Step.{inPage, wordStep};
 ghost use Rattle.machine.specs.Parts.{whole, outcome, goEffect, deferEffect, Ready, IsPage};
 use crate::Effect;
 use crate::Sequencer;
-use crate::form::LONG_PAGE;
-use crate::form::SHORT_PAGE;
+
+// A page has 256 addresses, or 32 for a word that reads a bank.
+pub const LONG_PAGE: usize = 256;
+
+pub const SHORT_PAGE: usize = 32;
 
 // On at another PC; flag and pending address zero.
 pub fn go_to(pc: usize, depth: usize) -> Effect

@@ -8,7 +8,8 @@ ghost use lib.ListN.{length, replicate};
 ghost use Rattle.choice.specs.Choice.{pick};
 ghost use Rattle.machine.specs.Shape.{sourceOf, register, go, branch, defer, call};
 ghost use Rattle.machine.specs.Step.{wordCount, shapeAt};
-ghost use Rattle.machine.specs.Parts.{IsPage, shapeOfDelivery, shapeIs, FormFits};
+ghost use Rattle.machine.specs.Parts.{IsPage, shapeOfDelivery};
+ghost use Rattle.processor.specs.Forms.{shapeIs, FormFits};
 ghost use Rattle.flow.specs.Flow.{turn, turnChanges, sweep, sweepChanges};
 ghost use Rattle.facts.specs.Record.{recordSize, depths};
 ghost use Rattle.cells.specs.Cells.{Bounded};
@@ -18,7 +19,7 @@ ghost use Rattle.sweeps.specs.Sweeps.{Laid, Passed};
 use callers::Values;
 use facts::Cell;
 use machine::act::Delivery;
-use machine::form::Form;
+use processor::form::Form;
 
 // Passes facts on to an address at a depth; an address at or above N gets nothing. Says whether a cell changed, as all
 // that follow do.
@@ -179,7 +180,7 @@ fn pass_place(
     if image.len() / 2 <= a {
         return false;
     }
-    let form = machine::form_at(image, a);
+    let form = processor::form_at(image, a);
     pass_word(image, table, depth, pc, facts, form)
 }
 
@@ -288,7 +289,7 @@ fn turn(image: &[u8], table: &mut [u8], depth: usize, pc: usize) -> bool
     }
     let c = cells::load(table, i);
     let facts = c.facts;
-    let form = machine::form_at(image, pc);
+    let form = processor::form_at(image, pc);
     let on = pass_words(image, table, depth, pc, facts, form);
     let back = pass_returns(image, table, depth, pc, facts, form);
     on | back

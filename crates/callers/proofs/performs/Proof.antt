@@ -2,8 +2,8 @@
 use mathlib.Core.Path.{_∙_, ap, sym, subst}
 use denote.Ref.{now}
 use Rattle.choice.specs.Choice.{pick}
-use Rattle.machine.specs.declared.form.Form.{Form}
-use Rattle.machine.specs.Parts.{shapeIs, FormFits}
+use Rattle.processor.specs.declared.form.Form.{Form}
+use Rattle.processor.specs.Forms.{shapeIs, FormFits}
 use Rattle.transfer.specs.Passes.{isCall, isReturn, some, wordsAt}
 use Rattle.callers.proofs.Words.{itself, one-word}
 use borrow.Author.Needs.{needs}

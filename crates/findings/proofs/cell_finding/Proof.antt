@@ -4,9 +4,9 @@ use native.Mathlib.Omega.{arith}
 use denote.Ref.{now}
 use Rattle.word.specs.Word.{InRange}
 use Rattle.machine.specs.Step.{wordCount}
-use Rattle.machine.specs.Parts.{shapeIs, Fetches}
+use Rattle.processor.specs.Forms.{shapeIs, Fetches}
 use Rattle.machine.proofs.Fetching.{no-shape}
-use Rattle.machine.proofs.Forming.{read-shape}
+use Rattle.processor.proofs.Forming.{read-shape}
 use Rattle.callers.proofs.Points.{point-small, point-room}
 use Rattle.callers.proofs.Sites.{site-bounded}
 use Rattle.findings.proofs.Passing.{asked-below, cell-unreached, cell-told, cell-invalid, cell-stop, cell-on}

@@ -2,9 +2,9 @@
 use mathlib.Core.Path.{_∙_, sym, subst}
 use denote.Ref.{now}
 use Rattle.word.specs.Word.{InRange}
-use Rattle.machine.specs.Parts.{shapeIs, Fetches}
+use Rattle.processor.specs.Forms.{shapeIs, Fetches}
 use Rattle.machine.proofs.Fetching.{no-shape}
-use Rattle.machine.proofs.Forming.{read-shape}
+use Rattle.processor.proofs.Forming.{read-shape}
 use Rattle.findings.proofs.Passing.{executed-outside, executed-invalid, executed-defer, executed-word}
 use borrow.Author.Needs.{needs}
 use Rattle.findings.proofs.executed_finding.Statement.{statement}

@@ -1,9 +1,9 @@
 -- `machine::form_at` meets its contract. Assumes nothing.
 use denote.Ref.{now}
-use Rattle.machine.proofs.Forming.{read-shape}
+use Rattle.processor.proofs.Forming.{read-shape}
 use borrow.Author.Needs.{needs}
-use Rattle.machine.proofs.form_at.Statement.{statement}
-use Rattle.machine.proofs.form_at.Tie as tie
+use Rattle.processor.proofs.form_at.Statement.{statement}
+use Rattle.processor.proofs.form_at.Tie as tie
 
 returns : tie.Need-returns
 returns c =

@@ -7,10 +7,10 @@ use Rattle.word.specs.declared.Word.{Word}
 use Rattle.word.specs.Word.{InRange, decoded}
 use Rattle.word.proofs.Laws.{decoded-in-range}
 use Rattle.state.specs.declared.State.{State}
-use Rattle.machine.specs.declared.form.Form.{Form}
+use Rattle.processor.specs.declared.form.Form.{Form}
 use Rattle.machine.specs.Shape.{Shape, shapeOf}
 use Rattle.machine.specs.Step.{Outcome, wordAt, shapeAt, wordStep}
-use Rattle.machine.specs.Parts.{shapeIs, FormFits}
+use Rattle.processor.specs.Forms.{shapeIs, FormFits}
 
 abbrev Formed : Word → Form → Type 0
 Formed w f = (shapeIs f ≡ shapeOf w) × FormFits f

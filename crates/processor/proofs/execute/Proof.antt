@@ -2,13 +2,14 @@
 use mathlib.Core.Path.{ap, subst}
 use mathlib.Core.List.{[], _∷_}
 use denote.Ref.{now}
 use Rattle.machine.specs.declared.Effect.{Effect}
 use Rattle.machine.specs.Step.{goState}
-use Rattle.machine.specs.Parts.{outcome, FormFits}
-use Rattle.machine.proofs.Forming.{retold}
+use Rattle.machine.specs.Parts.{outcome}
+use Rattle.processor.specs.Forms.{FormFits}
+use Rattle.processor.proofs.Forming.{retold}
 use borrow.Author.Needs.{needs}
-use Rattle.machine.proofs.execute.Statement.{statement}
-use Rattle.machine.proofs.execute.Tie as tie
+use Rattle.processor.proofs.execute.Statement.{statement}
+use Rattle.processor.proofs.execute.Tie as tie
 
 act-requires : tie.Need-act-requires
 act-requires c κs =

@@ -1,6 +1,6 @@
 use borrow.Author.Tests.{eq-eqb, ne-eqb}
-use Rattle.machine.proofs.fetch_address.Statement.{statement}
-use Rattle.machine.proofs.fetch_address.Tie as tie
+use Rattle.processor.proofs.fetch_address.Statement.{statement}
+use Rattle.processor.proofs.fetch_address.Tie as tie
 
 returns : tie.Need-returns
 returns c = simp (eq-eqb _ _ (c .if1 .taken))

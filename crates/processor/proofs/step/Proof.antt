@@ -7,12 +7,13 @@ use mathlib.Core.Path.{_∙_, sym, subst}
 use mathlib.Core.List.{[], _∷_}
 use denote.Ref.{now}
 use Rattle.choice.specs.Choice.{pick}
-use Rattle.machine.specs.Parts.{whole, shapeIs, Fetches}
+use Rattle.machine.specs.Parts.{whole}
+use Rattle.processor.specs.Forms.{shapeIs, Fetches}
 use Rattle.machine.proofs.Fetching.{pc-near, no-shape, outside, inside, nothing}
-use Rattle.machine.proofs.Forming.{read-in-range, read-shape}
+use Rattle.processor.proofs.Forming.{read-in-range, read-shape}
 use borrow.Author.Needs.{needs}
-use Rattle.machine.proofs.step.Statement.{statement}
-use Rattle.machine.proofs.step.Tie as tie
+use Rattle.processor.proofs.step.Statement.{statement}
+use Rattle.processor.proofs.step.Tie as tie
 
 returns : tie.Need-returns
 returns c =

@@ -2,10 +2,10 @@
 use Prim.Native.Nat.{_+_, _*_}
 use lib.ListN.{getD}
 use denote.Ref.{now}
-use Rattle.machine.proofs.Forming.{read-in-range}
+use Rattle.processor.proofs.Forming.{read-in-range}
 use borrow.Author.Needs.{needs}
-use Rattle.machine.proofs.word_at.Statement.{statement}
-use Rattle.machine.proofs.word_at.Tie as tie
+use Rattle.processor.proofs.word_at.Statement.{statement}
+use Rattle.processor.proofs.word_at.Tie as tie
 
 returns : tie.Need-returns
 returns c =

@@ -7,8 +7,8 @@ use denote.Enum.Declared.{tagOf}
 use Rattle.word.proofs.Word.{the-type}
 use Rattle.word.specs.declared.Word.{Word}
 use borrow.Author.Needs.{needs}
-use Rattle.machine.proofs.fetched_of.Statement.{statement}
-use Rattle.machine.proofs.fetched_of.Tie as tie
+use Rattle.processor.proofs.fetched_of.Statement.{statement}
+use Rattle.processor.proofs.fetched_of.Tie as tie
 
 returns-2 : tie.Need-returns-2
 returns-2 c =

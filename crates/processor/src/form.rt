@@ -2,9 +2,12 @@
 // the only place that turns kinds of words into something else than their fields.
 ghost use mathlib.Core.Path.{_≡_};
 ghost use Rattle.word.specs.Word.{InRange};
 ghost use Rattle.machine.specs.Shape.{shapeOf};
-ghost use Rattle.machine.specs.Parts.{operationOf, transmissionOf, shapeIs, FormFits};
-use crate::act::Delivery;
+ghost use Rattle.machine.specs.Parts.{operationOf, transmissionOf};
+ghost use Rattle.processor.specs.Forms.{shapeIs, FormFits};
+use machine::act::Delivery;
+use machine::go::LONG_PAGE;
+use machine::go::SHORT_PAGE;
 use word::Word;
 
 // s is the number of the source, a register or a bank, l the length of a bank's field, page the page's width.
@@ -59,11 +62,6 @@ fn transmission(d: usize, l: usize, i: usize) -> Form
         i,
     })
 }
-
-// A page has 256 addresses, or 32 for a word that reads a bank.
-pub const LONG_PAGE: usize = 256;
-
-pub const SHORT_PAGE: usize = 32;
 
 // NZT.
 fn branching(s: usize, l: usize, page: usize, i: usize) -> Form
