@@ -1,4 +1,3 @@
 pub mod Laws
 pub mod Order
 pub mod Joins
-pub mod Reading

@@ -1,6 +1,4 @@
 // Cells of the table of facts, read from and joined into the lent bytes.
-pub mod acts;
-
 ghost use mathlib.Core.Path.{_≡_};
 ghost use mathlib.Core.Bool.{not};
 ghost use Prim.Native.Nat.{_+_, _*_, _/_, _%_, _^_, _≤_, _<_};

@@ -95,7 +95,7 @@ fn deliver_finding(
     requires { ⌜ InImage (now image) pc × (length (now map) ≡ mapLength) × Bounded facts × (x ≤ unknown) ⌝ }
     ensures { λ r. ⌜ ((l : ℕ) → Tells r (targetQuestions (now (map .entry)) (targetOf d l) (resultFact op (getD facts 0 unknown) x) facts ++ (ask 21 (ltb (pc + 1) (wordCount (now (image .entry)))) ∷ []))) ⌝ }
 {
-    let y = cells::acts::result_fact(op, facts[0], x);
+    let y = effects::result_fact(op, facts[0], x);
     let f = target_finding(map, facts, d, y);
     if f != 0 {
         return f;
@@ -124,7 +124,7 @@ fn act_finding(image: &[u8], map: &[u8], pc: usize, facts: [u16; 11], a: Deliver
     if f != 0 {
         return f;
     }
-    let x = cells::acts::argument_fact(facts, a);
+    let x = effects::argument_fact(facts, a);
     deliver_finding(image, map, pc, facts, a.op, x, a.d)
 }
 

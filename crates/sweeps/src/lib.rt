@@ -68,8 +68,8 @@ fn pass_act(
     requires { ⌜ Laid (now image) (now table) × (depth < 9) × InImage (now image) pc × Bounded facts × (a .rl < 8) × (a .i < 256) ⌝ }
     ensures { λ r. ⌜ Passed (now (image .entry)) depth (now (table .entry)) (wordPasses (wordCount (now (image .entry))) depth pc facts (shapeOfDelivery a)) (now (table .exit)) r ⌝ }
 {
-    let x = cells::acts::argument_fact(facts, a);
-    let after = cells::acts::facts_after(a.op, x, a.d, facts);
+    let x = effects::argument_fact(facts, a);
+    let after = effects::facts_after(a.op, x, a.d, facts);
     pass(image, table, depth, pc + 1, after)
 }
 

@@ -1,11 +1,11 @@
--- `cells::acts::facts_after` meets its contract. Assumes nothing.
+-- `effects::facts_after` meets its contract. Assumes nothing.
 use native.Mathlib.Omega.{arith}
 use lib.Dec.{lit<}
 use borrow.Author.Needs.{needs}
-use Rattle.cells.proofs.Reading.{slot-eq, latch-eq}
+use Rattle.effects.proofs.Reading.{slot-eq, latch-eq}
 use Rattle.cells.proofs.Laws.{fact-bound}
-use Rattle.cells.proofs.acts.facts_after.Statement.{statement}
-use Rattle.cells.proofs.acts.facts_after.Tie as tie
+use Rattle.effects.proofs.facts_after.Statement.{statement}
+use Rattle.effects.proofs.facts_after.Tie as tie
 
 with-carry-fact-requires : tie.Need-with-carry-fact-requires
 with-carry-fact-requires c κs =

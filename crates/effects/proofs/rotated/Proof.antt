@@ -1,9 +1,9 @@
--- `cells::acts::rotated` meets its contract. Assumes nothing.
+-- `effects::rotated` meets its contract. Assumes nothing.
 use native.Mathlib.Omega.{arith}
 use borrow.Author.Tests.{eq-eqb, ne-eqb}
 use borrow.Author.Needs.{needs}
-use Rattle.cells.proofs.acts.rotated.Statement.{statement}
-use Rattle.cells.proofs.acts.rotated.Tie as tie
+use Rattle.effects.proofs.rotated.Statement.{statement}
+use Rattle.effects.proofs.rotated.Tie as tie
 
 returns : tie.Need-returns
 returns c = (simp (eq-eqb _ _ (c .if1 .taken)), omega arith)

@@ -1,11 +1,11 @@
--- `cells::acts::result_fact` meets its contract. Assumes nothing.
+-- `effects::result_fact` meets its contract. Assumes nothing.
 use native.Mathlib.Omega.{arith}
 use borrow.Author.Tests.{eq-eqb, ne-eqb}
 use borrow.Author.Needs.{needs}
 use Rattle.machine.specs.Step.{resultOf}
 use Rattle.facts.specs.Facts.{resultFact}
-use Rattle.cells.proofs.acts.result_fact.Statement.{statement}
-use Rattle.cells.proofs.acts.result_fact.Tie as tie
+use Rattle.effects.proofs.result_fact.Statement.{statement}
+use Rattle.effects.proofs.result_fact.Tie as tie
 
 returns : tie.Need-returns
 unfolding resultFact

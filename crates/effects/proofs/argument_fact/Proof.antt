@@ -1,10 +1,10 @@
--- `cells::acts::argument_fact` meets its contract. Assumes nothing.
+-- `effects::argument_fact` meets its contract. Assumes nothing.
 use mathlib.Core.Path.{refl}
 use native.Mathlib.Omega.{arith}
 use borrow.Author.Tests.{eq-eqb, ne-eqb}
 use borrow.Author.Needs.{needs}
-use Rattle.cells.proofs.acts.argument_fact.Statement.{statement}
-use Rattle.cells.proofs.acts.argument_fact.Tie as tie
+use Rattle.effects.proofs.argument_fact.Statement.{statement}
+use Rattle.effects.proofs.argument_fact.Tie as tie
 
 returns : tie.Need-returns
 returns c = (rw (eq-eqb (c .before .before .args .a .kind) 1 (c .before .if1 .taken)) refl, omega (arith, c .before .before .pre .2))

@@ -1,9 +1,9 @@
--- `cells::acts::with_carry_fact` meets its contract. Assumes nothing.
+-- `effects::with_carry_fact` meets its contract. Assumes nothing.
 use borrow.Author.Tests.{eq-eqb, ne-eqb}
 use borrow.Author.Needs.{needs}
 use Rattle.facts.specs.Facts.{withCarryFact}
-use Rattle.cells.proofs.acts.with_carry_fact.Statement.{statement}
-use Rattle.cells.proofs.acts.with_carry_fact.Tie as tie
+use Rattle.effects.proofs.with_carry_fact.Statement.{statement}
+use Rattle.effects.proofs.with_carry_fact.Tie as tie
 
 returns : tie.Need-returns
 unfolding withCarryFact

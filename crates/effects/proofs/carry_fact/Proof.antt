@@ -1,10 +1,10 @@
--- `cells::acts::carry_fact` meets its contract. Assumes nothing.
+-- `effects::carry_fact` meets its contract. Assumes nothing.
 use native.Mathlib.Omega.{arith}
 use borrow.Author.Tests.{eq-eqb, ne-eqb}
 use borrow.Author.Needs.{needs}
 use Rattle.facts.specs.Facts.{carryFact}
-use Rattle.cells.proofs.acts.carry_fact.Statement.{statement}
-use Rattle.cells.proofs.acts.carry_fact.Tie as tie
+use Rattle.effects.proofs.carry_fact.Statement.{statement}
+use Rattle.effects.proofs.carry_fact.Tie as tie
 
 returns : tie.Need-returns
 unfolding carryFact

@@ -1,11 +1,11 @@
--- `cells::acts::fact_of` meets its contract. Assumes nothing.
+-- `effects::fact_of` meets its contract. Assumes nothing.
 use native.Mathlib.Omega.{arith}
 use borrow.Author.Tests.{le-leb}
 use borrow.Author.Needs.{needs}
-use Rattle.cells.proofs.Reading.{source-eq}
+use Rattle.effects.proofs.Reading.{source-eq}
 use Rattle.cells.proofs.Laws.{fact-bound}
-use Rattle.cells.proofs.acts.fact_of.Statement.{statement}
-use Rattle.cells.proofs.acts.fact_of.Tie as tie
+use Rattle.effects.proofs.fact_of.Statement.{statement}
+use Rattle.effects.proofs.fact_of.Tie as tie
 
 rotated-requires : tie.Need-rotated-requires
 rotated-requires c κs =
