@@ -24,92 +24,26 @@ struct Tally {
     sum: u64,
 }
 
+fn entry(kind: u8, a: usize, b: usize, c: usize) -> Listed {
+    Listed { kind, a, b, c }
+}
+
 fn fields_of(w: Word) -> Listed {
     match w {
-        Word::Move { s, rl, d } => return Listed {
-            kind: 0,
-            a: s,
-            b: rl,
-            c: d,
-        },
-        Word::Add { s, rl, d } => return Listed {
-            kind: 1,
-            a: s,
-            b: rl,
-            c: d,
-        },
-        Word::And { s, rl, d } => return Listed {
-            kind: 2,
-            a: s,
-            b: rl,
-            c: d,
-        },
-        Word::Xor { s, rl, d } => return Listed {
-            kind: 3,
-            a: s,
-            b: rl,
-            c: d,
-        },
-        Word::XecRegister { s, i } => return Listed {
-            kind: 4,
-            a: s,
-            b: 0,
-            c: i,
-        },
-        Word::XecBank { s, l, i } => return Listed {
-            kind: 5,
-            a: s,
-            b: l,
-            c: i,
-        },
-        Word::NztRegister { s, i } => return Listed {
-            kind: 6,
-            a: s,
-            b: 0,
-            c: i,
-        },
-        Word::NztBank { s, l, i } => return Listed {
-            kind: 7,
-            a: s,
-            b: l,
-            c: i,
-        },
-        Word::Call { i } => return Listed {
-            kind: 8,
-            a: 0,
-            b: 0,
-            c: i,
-        },
-        Word::Ret => return Listed {
-            kind: 9,
-            a: 0,
-            b: 0,
-            c: 0,
-        },
-        Word::XmitRegister { d, i } => return Listed {
-            kind: 10,
-            a: d,
-            b: 0,
-            c: i,
-        },
-        Word::XmitBank { d, l, i } => return Listed {
-            kind: 11,
-            a: d,
-            b: l,
-            c: i,
-        },
-        Word::Jmp { a } => return Listed {
-            kind: 12,
-            a: 0,
-            b: 0,
-            c: a,
-        },
-        Word::Invalid => return Listed {
-            kind: 13,
-            a: 0,
-            b: 0,
-            c: 0,
-        },
+        Word::Move { s, rl, d } => return entry(0, s, rl, d),
+        Word::Add { s, rl, d } => return entry(1, s, rl, d),
+        Word::And { s, rl, d } => return entry(2, s, rl, d),
+        Word::Xor { s, rl, d } => return entry(3, s, rl, d),
+        Word::XecRegister { s, i } => return entry(4, s, 0, i),
+        Word::XecBank { s, l, i } => return entry(5, s, l, i),
+        Word::NztRegister { s, i } => return entry(6, s, 0, i),
+        Word::NztBank { s, l, i } => return entry(7, s, l, i),
+        Word::Call { i } => return entry(8, 0, 0, i),
+        Word::Ret => return entry(9, 0, 0, 0),
+        Word::XmitRegister { d, i } => return entry(10, d, 0, i),
+        Word::XmitBank { d, l, i } => return entry(11, d, l, i),
+        Word::Jmp { a } => return entry(12, 0, 0, a),
+        Word::Invalid => return entry(13, 0, 0, 0),
     }
 }
 
