@@ -25,8 +25,8 @@ extern "C" {
 #endif
 
 /* 10,000 times the first part, 100 times the second, and the third. */
-#define RIPTIDE_VERSION 10000
-#define RIPTIDE_VERSION_TEXT "1.0.0"
+#define RIPTIDE_VERSION 10100
+#define RIPTIDE_VERSION_TEXT "1.1.0"
 
 /* Lengths. An image has an even count of bytes, 2 at least. */
 #define RIPTIDE_WORD_BYTES 2
@@ -97,7 +97,8 @@ static inline const char *riptide_text(unsigned number)
 
 /* Reads a word. 22 if it is invalid; else its opcode and fields, to be taken out by the four below. MOVE, ADD, AND, XOR
  * have source, rotation or length, destination; XEC, NZT and XMIT of a bank have bank, length, constant, of a register
- * register and constant; CALL is opcode 5 with 7 and its constant, RET opcode 5 with 15 and 0; JMP has its address. */
+ * register and constant; CALL is opcode 5 with 7 and its constant, RET opcode 5 with 15 and its low byte, any of the
+ * 256, which no step looks at; JMP has its address. */
 uint64_t riptide_read_word(uint16_t word);
 
 #define RIPTIDE_OPCODE(n) ((unsigned)((n) >> 8 & 0xff))

@@ -39,7 +39,7 @@ fn fields_of(w: Word) -> Listed {
         Word::NztRegister { s, i } => return entry(6, s, 0, i),
         Word::NztBank { s, l, i } => return entry(7, s, l, i),
         Word::Call { i } => return entry(8, 0, 0, i),
-        Word::Ret => return entry(9, 0, 0, 0),
+        Word::Ret { i } => return entry(9, 0, 0, i),
         Word::XmitRegister { d, i } => return entry(10, d, 0, i),
         Word::XmitBank { d, l, i } => return entry(11, d, l, i),
         Word::Jmp { a } => return entry(12, 0, 0, a),

@@ -4,3 +4,4 @@ pub mod Fetching
 pub mod Values
 pub mod InRange
 pub mod Keeps
+pub mod Return

@@ -66,7 +66,8 @@ placesOf rl d = pick (leb 16 d) 0 rl
 abbrev pub actShape : ℕ → ℕ → ℕ → ℕ → Shape
 actShape op s rl d = act (sourceOf s (placesOf rl d) rl) op (targetOf d rl)
 
--- XEC and NZT take the whole register, or the bank's field; CALL takes AUX as its page
+-- XEC and NZT take the whole register, or the bank's field; CALL takes AUX as its page; RET's low byte is ignored
+-- (document 02, 2026-01)
 unfoldable pub shapeOf : Word → Shape
 shapeOf (Move s rl d) = actShape 0 s rl d
 shapeOf (Add s rl d) = actShape 1 s rl d
@@ -77,7 +78,7 @@ shapeOf (XecBank s l i) = go (sourceOf s 0 l) (defer 32 i)
 shapeOf (NztRegister s i) = go (sourceOf s 0 0) (branch 256 i)
 shapeOf (NztBank s l i) = go (sourceOf s 0 l) (branch 32 i)
 shapeOf (Call i) = go (register 0 0) (call i)
-shapeOf Ret = go (constant 0) return
+shapeOf (Ret i) = go (constant 0) return
 shapeOf (XmitRegister d i) = act (constant i) 0 (targetOf d 0)
 shapeOf (XmitBank d l i) = act (constant i) 0 (targetOf d l)
 shapeOf (Jmp a) = go (constant 0) (jump a)

@@ -91,7 +91,7 @@ pub fn form_of(word: Word) -> Form
         Word::NztRegister { s, i } => return branching(s, 0, LONG_PAGE, i),
         Word::NztBank { s, l, i } => return branching(s, l, SHORT_PAGE, i),
         Word::Call { i } => return Form::Call { i },
-        Word::Ret => return Form::Return,
+        Word::Ret { i } => return Form::Return,
         Word::XmitRegister { d, i } => return transmission(d, 0, i),
         Word::XmitBank { d, l, i } => return transmission(d, l, i),
         Word::Jmp { a } => return Form::Jump { a },

@@ -30,7 +30,7 @@ readNumber (XecBank s l i) = fieldsNumber 4 s l i
 readNumber (NztRegister s i) = fieldsNumber 5 s i 0
 readNumber (NztBank s l i) = fieldsNumber 5 s l i
 readNumber (Call i) = fieldsNumber 5 7 i 0
-readNumber Ret = fieldsNumber 5 15 0 0
+readNumber (Ret i) = fieldsNumber 5 15 i 0
 readNumber (XmitRegister d i) = fieldsNumber 6 d i 0
 readNumber (XmitBank d l i) = fieldsNumber 6 d l i
 readNumber (Jmp a) = fieldsNumber 7 a 0 0
@@ -38,14 +38,14 @@ readNumber Invalid = 22
 
 -- riptide_write_word takes the opcode and the fields as riptide_read_word gives them: XEC, NZT and XMIT of a bank have
 -- three fields, of a register two, JMP has one, and a field that is not there must be 0. CALL is NZT's form with the
--- register 07, RET with 17 and 0.
+-- register 07, RET with 17.
 unfoldable pub xecFrom : ℕ → ℕ → ℕ → Word
 xecFrom a b c = pick (isBank a) (XecBank a b c) (pick (eqb c 0) (XecRegister a b) Invalid)
 
 unfoldable pub nztFrom : ℕ → ℕ → ℕ → Word
 nztFrom a b c =
     pick (isBank a) (NztBank a b c)
-    (pick (eqb c 0) (pick (eqb a 7) (Call b) (pick (eqb a 15 && eqb b 0) Ret (NztRegister a b))) Invalid)
+    (pick (eqb c 0) (pick (eqb a 7) (Call b) (pick (eqb a 15) (Ret b) (NztRegister a b))) Invalid)
 
 unfoldable pub xmitFrom : ℕ → ℕ → ℕ → Word
 xmitFrom a b c = pick (isBank a) (XmitBank a b c) (pick (eqb c 0) (XmitRegister a b) Invalid)

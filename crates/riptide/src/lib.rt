@@ -36,7 +36,7 @@ fn read_number(word: Word) -> u64
         Word::NztRegister { s, i } => return fields(5, s, i, 0),
         Word::NztBank { s, l, i } => return fields(5, s, l, i),
         Word::Call { i } => return fields(5, 7, i, 0),
-        Word::Ret => return fields(5, 15, 0, 0),
+        Word::Ret { i } => return fields(5, 15, i, 0),
         Word::XmitRegister { d, i } => return fields(6, d, i, 0),
         Word::XmitBank { d, l, i } => return fields(6, d, l, i),
         Word::Jmp { a } => return fields(7, a, 0, 0),
@@ -65,7 +65,7 @@ fn xec_from(s: usize, b: usize, c: usize) -> Word
     Word::Invalid
 }
 
-// CALL is NZT's form with the register 07, RET with 17 and 0.
+// CALL is NZT's form with the register 07, RET with 17.
 fn nzt_from(s: usize, b: usize, c: usize) -> Word
     ensures { λ r. ⌜ r ≡ nztFrom s b c ⌝ }
 {
@@ -78,8 +78,8 @@ fn nzt_from(s: usize, b: usize, c: usize) -> Word
     if s == 7 {
         return Word::Call { i: b };
     }
-    if (s == 15) & (b == 0) {
-        return Word::Ret;
+    if s == 15 {
+        return Word::Ret { i: b };
     }
     Word::NztRegister { s, i: b }
 }

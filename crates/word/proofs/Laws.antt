@@ -170,7 +170,7 @@ module _ (w : ℕ) (small : w < 65536) where
 
   nzt-reads : opcodeOf w ≡ 5
       → Reads w (nztRead (bits3to7 w) (bits8to10 w) (bits11to15 w) (bits8to15 w))
-      (isSource (bits3to7 w) || eqb (bits3to7 w) 7 || (eqb (bits3to7 w) 15 && eqb (bits8to15 w) 0))
+      (isSource (bits3to7 w) || eqb (bits3to7 w) 7 || eqb (bits3to7 w) 15)
   unfolding encoded
   nzt-reads o =
       subst (Reads w (nztRead (bits3to7 w) (bits8to10 w) (bits11to15 w) (bits8to15 w)))
@@ -183,12 +183,10 @@ module _ (w : ℕ) (small : w < 65536) where
       (λ c.
       let s : bits3to7 w ≡ 7 = eqb-true _ _ c in
       at-register 5 o (omega arith) (omega arith) b (λ z. cc) (rw s at (register-written 5 o true refl)) (rw s) (omega arith))
-      (λ c. pick-test (Reads w) (eqb (bits3to7 w) 15 && eqb (bits8to15 w) 0)
+      (λ c. pick-test (Reads w) (eqb (bits3to7 w) 15)
       (λ e.
-      let s : bits3to7 w ≡ 15 = eqb-true _ _ (and-first _ (eqb (bits8to15 w) 0) e) in
-      let i : bits8to15 w ≡ 0 = eqb-true _ _ (and-second (eqb (bits3to7 w) 15) _ e) in
-      let n : wordOf 5 15 0 ≡ w = omega arith in
-      at-register 5 o (omega arith) (omega arith) b (λ z. cc) (ap Bits n) (rw (s, i)) tt)
+      let s : bits3to7 w ≡ 15 = eqb-true _ _ e in
+      at-register 5 o (omega arith) (omega arith) b (λ z. cc) (rw s at (register-written 5 o true refl)) (rw s) (omega arith))
       (λ e. unlisted w)))))
 
   xmit-reads : opcodeOf w ≡ 6
@@ -333,9 +331,8 @@ writes (NztBank s l i) w h =
     bank-writes w 5 s l i (ltb l 8) (omega arith) (ltb-true l 8) h (λ r k. r) (λ k o f b y x. simp (o, f, b, y, x))
 writes (Call i) w h =
     register-writes w 5 7 i true (omega arith) (λ k. omega arith) h (λ r. r .2) (λ k o f b y. simp (o, f, y))
-writes Ret w h =
-    let n : wordOf 5 15 0 ≡ w = cc in
-    record { back = subst (λ (v : ℕ). decoded v ≡ Ret) n refl; fits = omega arith; range = tt }
+writes (Ret i) w h =
+    register-writes w 5 15 i true (omega arith) (λ k. omega arith) h (λ r. r .2) (λ k o f b y. simp (o, f, y))
 writes (XmitRegister d i) w h =
     register-writes w 6 d i (isRegisterTarget d) (omega arith) (target-low d) h (λ r. r) (λ k o f b y. simp (o, f, b, k, y))
 writes (XmitBank d l i) w h =

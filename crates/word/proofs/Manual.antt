@@ -78,7 +78,7 @@ cases =
     -- 0xA734 CALL $34
     Call 52 ∷
     -- 0xAF00 RET
-    Ret ∷
+    Ret 0 ∷
     -- 0xC0FF XMIT @377, AUX
     XmitRegister 0 255 ∷
     -- 0xC72B XMIT @027, IVL (octal 53, as its bits say)

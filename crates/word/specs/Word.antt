@@ -67,13 +67,14 @@ xecRead s l short i =
     (pick (isXecLength l) (XecBank s l short) Invalid)
     (pick (isRegisterSource s) (XecRegister s i) Invalid)
 
+-- RET keeps its low byte, whatever it is (document 02, 2026-01).
 abbrev pub nztRead : ℕ → ℕ → ℕ → ℕ → Word
 nztRead s l short i =
     pick (isBank s)
     (NztBank s l short)
     (pick (isRegisterSource s)
     (NztRegister s i)
-    (pick (eqb s 7) (Call i) (pick (eqb s 15 && eqb i 0) Ret Invalid)))
+    (pick (eqb s 7) (Call i) (pick (eqb s 15) (Ret i) Invalid)))
 
 abbrev pub xmitRead : ℕ → ℕ → ℕ → ℕ → Word
 xmitRead d l short i =
@@ -94,7 +95,8 @@ decoded w =
     (xmitRead (bits3to7 w) (bits8to10 w) (bits11to15 w) (bits8to15 w))
     (Jmp (bits3to15 w)))))
 
--- The words that document 01 lists, opcode by opcode. Any other word is invalid.
+-- The words that document 01 lists, opcode by opcode, and RET with every low byte (document 02, 2026-01). Any other word
+-- is invalid.
 unfoldable pub isValid : ℕ → Bool
 isValid w =
     pick (ltb (opcodeOf w) 4)
@@ -102,7 +104,7 @@ isValid w =
     (pick (eqb (opcodeOf w) 4)
     (pick (isBank (bits3to7 w)) (isXecLength (bits8to10 w)) (isRegisterSource (bits3to7 w)))
     (pick (eqb (opcodeOf w) 5)
-    (isSource (bits3to7 w) || eqb (bits3to7 w) 7 || (eqb (bits3to7 w) 15 && eqb (bits8to15 w) 0))
+    (isSource (bits3to7 w) || eqb (bits3to7 w) 7 || eqb (bits3to7 w) 15)
     (pick (eqb (opcodeOf w) 6) (isTarget (bits3to7 w)) true)))
 
 -- The paper's numbers for each case: the opcode and the fields in the order of their bits, or 22.
@@ -116,7 +118,7 @@ fieldsOf (XecBank s l i) = 4 ∷ s ∷ l ∷ i ∷ []
 fieldsOf (NztRegister s i) = 5 ∷ s ∷ i ∷ []
 fieldsOf (NztBank s l i) = 5 ∷ s ∷ l ∷ i ∷ []
 fieldsOf (Call i) = 5 ∷ 7 ∷ i ∷ []
-fieldsOf Ret = 5 ∷ 15 ∷ 0 ∷ []
+fieldsOf (Ret i) = 5 ∷ 15 ∷ i ∷ []
 fieldsOf (XmitRegister d i) = 6 ∷ d ∷ i ∷ []
 fieldsOf (XmitBank d l i) = 6 ∷ d ∷ l ∷ i ∷ []
 fieldsOf (Jmp a) = 7 ∷ a ∷ []
@@ -168,7 +170,7 @@ encoded (XecBank s l i) = bankBits 4 (isXecLength l) s l i
 encoded (NztRegister s i) = registerBits 5 (isRegisterSource s) s i
 encoded (NztBank s l i) = bankBits 5 (ltb l 8) s l i
 encoded (Call i) = registerBits 5 true 7 i
-encoded Ret = Bits (wordOf 5 15 0)
+encoded (Ret i) = registerBits 5 true 15 i
 encoded (XmitRegister d i) = registerBits 6 (isRegisterTarget d) d i
 encoded (XmitBank d l i) = bankBits 6 (ltb l 8) d l i
 encoded (Jmp a) = jmpBits a
@@ -203,7 +205,7 @@ InRange (XecBank s l i) = BankInRange s l i × (1 ≤ l) × (l < 6)
 InRange (NztRegister s i) = RegisterInRange s (isRegisterSource s) i
 InRange (NztBank s l i) = BankInRange s l i
 InRange (Call i) = i < 256
-InRange Ret = Unit
+InRange (Ret i) = i < 256
 InRange (XmitRegister d i) = RegisterInRange d (isRegisterTarget d) i
 InRange (XmitBank d l i) = BankInRange d l i
 InRange (Jmp a) = a < 8192

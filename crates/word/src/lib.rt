@@ -1,5 +1,6 @@
 // The instruction word: decoded from 16 bits to a case with its fields, and encoded again.
 // Fields bear the manual's letters: s source, rl rotation or length, d destination, i constant, l length, a address.
+// RET's i is the low byte that it keeps and that no step looks at.
 ghost use mathlib.Core.Bool.{true};
 ghost use mathlib.Core.Path.{_≡_};
 ghost use Rattle.word.specs.Word.{isBank, isRegisterSource, isRegisterTarget, isSource, isTarget};
@@ -17,7 +18,7 @@ pub enum Word {
     NztRegister { s: usize, i: usize },
     NztBank { s: usize, l: usize, i: usize },
     Call { i: usize },
-    Ret,
+    Ret { i: usize },
     XmitRegister { d: usize, i: usize },
     XmitBank { d: usize, l: usize, i: usize },
     Jmp { a: usize },
@@ -123,8 +124,8 @@ fn decode_nzt(s: usize, l: usize, short: usize, i: usize) -> Word
     if s == 7 {
         return Word::Call { i };
     }
-    if (s == 15) & (i == 0) {
-        return Word::Ret;
+    if s == 15 {
+        return Word::Ret { i };
     }
     Word::Invalid
 }
@@ -259,7 +260,7 @@ pub fn encode(word: Word) -> Encoding
         Word::NztRegister { s, i } => return encode_register(5, is_register_source(s), s, i),
         Word::NztBank { s, l, i } => return encode_bank(5, l < 8, s, l, i),
         Word::Call { i } => return encode_register(5, true, 7, i),
-        Word::Ret => return word_bits(5, 15, 0),
+        Word::Ret { i } => return encode_register(5, true, 15, i),
         Word::XmitRegister { d, i } => return encode_register(6, is_register_target(d), d, i),
         Word::XmitBank { d, l, i } => return encode_bank(6, l < 8, d, l, i),
         Word::Jmp { a } => return encode_jmp(a),

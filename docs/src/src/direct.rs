@@ -175,7 +175,7 @@ impl Core {
             self.go(usize::from(self.registers[AUX]) * 256 + (word & 255));
             return 0;
         }
-        if word != 0xaf00 {
+        if word >> 8 & 31 != 0o17 {
             return stopped(22);
         }
         if self.depth == 0 {

@@ -248,7 +248,7 @@ fn questions(image: &Image, map: &Map, state: &State, bus: [u8; 2]) -> (u8, Word
         25
     } else if matches!(word, Word::Call { .. }) && state.depth >= 8 {
         26
-    } else if word == Word::Ret && state.depth == 0 {
+    } else if matches!(word, Word::Ret { .. }) && state.depth == 0 {
         27
     } else {
         0
@@ -268,7 +268,7 @@ fn next_pc(state: &mut State, word: Word, source: u8) -> u16 {
             state.depth += 1;
             u16::from(state.registers[0]) * 256 + i
         }
-        Word::Ret => {
+        Word::Ret { .. } => {
             state.depth -= 1;
             std::mem::take(&mut state.returns[usize::from(state.depth)])
         }

@@ -26,7 +26,7 @@ fn valid(word: u16) -> bool {
     match word >> 13 {
         0..=3 => source && target(word & 31),
         4 => source && (number < 16 || (1..=5).contains(&middle)),
-        5 => source || number == 7 || word == 0xaf00,
+        5 => source || number == 7 || number == 15,
         6 => target(number),
         _ => true,
     }
@@ -197,7 +197,7 @@ impl Program {
         if is_call(word) && depth < 8 && !facts.0[0] {
             found.push((5, 28));
         }
-        if word == 0xaf00 && depth == 0 {
+        if word >> 8 == 0xaf && depth == 0 {
             found.push((6, 27));
         }
         let outside = match word >> 13 {

@@ -3,7 +3,7 @@
 
 use crate::digest::Random;
 use crate::machine::State;
-use crate::word::{encode, Word};
+use crate::word::{decode, encode, Word};
 use Word::*;
 
 /// The bytes of words.
@@ -71,7 +71,7 @@ pub fn timing_words() -> Vec<u16> {
         Xor { s: 2, rl: 0, d: 0o37 },
         And { s: 6, rl: 4, d: 0o11 },
         Move { s: 0o11, rl: 2, d: 0o21 },
-        Ret,
+        Ret { i: 0 },
     ])
 }
 
@@ -87,7 +87,7 @@ pub fn nested(depth: usize, body: &[u16]) -> Vec<u16> {
     let mut words = Vec::new();
     for level in 0..depth {
         let next = (3 * (level + 1)) as u16;
-        let back = if level == 0 { Jmp { a: 0 } } else { Ret };
+        let back = if level == 0 { Jmp { a: 0 } } else { Ret { i: 0 } };
         words.extend(assemble(&[XmitRegister { d: 0, i: 0 }, Call { i: next }, back]));
     }
     words.extend(body);
@@ -99,14 +99,23 @@ pub fn body_at(depth: usize) -> u16 {
     (3 * depth) as u16
 }
 
-/// Any valid word.
+/// Any valid word, RET with zeros: `with_return_bytes` gives it others.
 pub fn random_valid(random: &mut Random) -> u16 {
     loop {
         let word = random.below(65_536) as u16;
-        if crate::word::decode(word) != Invalid {
+        if !matches!(decode(word), Invalid | Ret { i: 1.. }) {
             return word;
         }
     }
+}
+
+/// The same words, each RET with any low byte.
+pub fn with_return_bytes(random: &mut Random, words: &[u16]) -> Vec<u16> {
+    let one = |&word: &u16| match decode(word) {
+        Ret { .. } => 0xaf00 + random.below(256) as u16,
+        _ => word,
+    };
+    words.iter().map(one).collect()
 }
 
 /// Where a random program places its blocks; block 0 is the main one.
@@ -218,7 +227,7 @@ fn fill_block(random: &mut Random, layout: &Layout, block: usize, words: &mut Ve
             words.extend(assemble(&[random_plain(random, from, to, at)]));
         }
     }
-    let end = if block == 0 { Jmp { a: 2 } } else { Ret };
+    let end = if block == 0 { Jmp { a: 2 } } else { Ret { i: 0 } };
     words.extend(assemble(&[end]));
 }
 
@@ -295,7 +304,7 @@ pub fn dispatch_words() -> Vec<u16> {
         Call { i: 28 },
         And { s: 1, rl: 3, d: 0o32 },
         // 20 and 21: executed by 25; 22 and 23 are not reached
-        Ret,
+        Ret { i: 0 },
         Move { s: 6, rl: 0, d: 0o37 },
         Jmp { a: 22 },
         Jmp { a: 22 },
@@ -303,12 +312,12 @@ pub fn dispatch_words() -> Vec<u16> {
         Xor { s: 0o27, rl: 0, d: 6 },
         XecBank { s: 0o37, l: 1, i: 20 },
         Add { s: 6, rl: 1, d: 6 },
-        Ret,
+        Ret { i: 0 },
         // 28: called
         Move { s: 6, rl: 2, d: 0o11 },
         Add { s: 0o11, rl: 0, d: 0o27 },
         NztBank { s: 0o27, l: 2, i: 28 },
-        Ret,
+        Ret { i: 0 },
     ])
 }
 
@@ -324,7 +333,7 @@ pub fn nested_words() -> Vec<u16> {
             Xor { s: 1, rl: 5, d: 2 },
             Move { s: 2, rl: 6, d: 0o26 },
             NztBank { s: 0o30, l: 1, i: body_at(8) + 1 },
-            Ret,
+            Ret { i: 0 },
         ]),
     )
 }

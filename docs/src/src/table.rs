@@ -172,8 +172,8 @@ impl Analysis<'_> {
             },
             Word::Call { .. } if depth == 8 => (depth, vec![]),
             Word::Call { i } => (depth + 1, self.call_targets(facts, i)),
-            Word::Ret if depth == 0 => (depth, vec![]),
-            Word::Ret => (depth - 1, self.return_points(depth - 1)),
+            Word::Ret { .. } if depth == 0 => (depth, vec![]),
+            Word::Ret { .. } => (depth - 1, self.return_points(depth - 1)),
             _ => (depth, vec![pc + 1]),
         }
     }
@@ -248,7 +248,7 @@ impl Analysis<'_> {
         if is_call && facts[0].is_none() {
             return 28;
         }
-        if word == Word::Ret && depth == 0 {
+        if matches!(word, Word::Ret { .. }) && depth == 0 {
             return 27;
         }
         let (_, mut next) = self.successors(word, depth, pc, facts);

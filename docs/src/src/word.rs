@@ -5,7 +5,9 @@ pub const INVALID: u8 = 22;
 
 /// A decoded word with its fields, one case for each kind.
 ///
-/// `rl` is R where register goes to register or bus address, else L.
+/// `rl` is R where register goes to register or bus address, else L. `i` of
+/// RET is the byte that the next gateware counts returns by (2026-01); no step
+/// looks at it.
 #[derive(Clone, Copy, PartialEq, Eq, Debug)]
 pub enum Word {
     Move { s: u16, rl: u16, d: u16 },
@@ -17,7 +19,7 @@ pub enum Word {
     NztRegister { s: u16, i: u16 },
     NztBank { s: u16, l: u16, i: u16 },
     Call { i: u16 },
-    Ret,
+    Ret { i: u16 },
     XmitRegister { d: u16, i: u16 },
     XmitBank { d: u16, l: u16, i: u16 },
     Jmp { a: u16 },
@@ -107,7 +109,7 @@ fn decode_nzt(word: u16, s: u16) -> Word {
     let i = word % 256;
     match s {
         0o07 => Call { i },
-        0o17 if i == 0 => Ret,
+        0o17 => Ret { i },
         _ if is_source_register(s) => NztRegister { s, i },
         _ if is_bank(s) => NztBank { s, l: word / 32 % 8, i: word % 32 },
         _ => Invalid,
@@ -136,7 +138,7 @@ pub fn encode(word: Word) -> Result<u16, u8> {
         NztRegister { s, i } => two(5, is_source_register(s), s, i),
         NztBank { s, l, i } => bank(5, true, s, l, i),
         Call { i } => two(5, true, 0o07, i),
-        Ret => two(5, true, 0o17, 0),
+        Ret { i } => two(5, true, 0o17, i),
         XmitRegister { d, i } => two(6, is_target_register(d), d, i),
         XmitBank { d, l, i } => bank(6, true, d, l, i),
         Jmp { a } => fit(a < 8192, 7, a),

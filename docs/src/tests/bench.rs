@@ -37,6 +37,10 @@ fn lengths_in_their_own_order() {
 fn other_programs() {
     assert_eq!(with(&timing_map(), &timing_words()), "admitted words 25 left 1 1 right 1 1\n");
     assert_eq!(with(&ALL, &[0xa702, 0xe000, 0x0008]), "refused 22 depth 1 address 2\n");
+    // RET with a low byte that is not zero (2026-01).
+    let all = "admitted words 3 left 256 256 right 256 256\n";
+    assert_eq!(with(&ALL, &[0xa702, 0xe000, 0xaf81]), all);
+    assert_eq!(with(&ALL, &[0xaf81]), "refused 27 depth 0 address 0\n");
     let map = map_of([&[0, 7, 8], &[255], &[], &[1, 2]]);
     assert_eq!(with(&map, &[0xe000]), "admitted words 1 left 3 1 right 0 2\n");
 }
@@ -50,6 +54,7 @@ fn stored_inputs() {
     assert_eq!(line(&file("crates/bench/stdin")).as_bytes(), file("crates/bench/stdout"));
     for (sample, text) in [
         ("samples/indicator.bin", "admitted words 4 left 1 0 right 0 1"),
+        ("samples/routine.bin", "admitted words 6 left 1 0 right 0 1"),
         ("samples/odometer.bin", "refused 28 depth 0 address 3"),
     ] {
         assert_eq!(line(&file(sample)), format!("{text}\n"));

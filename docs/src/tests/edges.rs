@@ -7,7 +7,7 @@ use riptide_reference::map::{counts, Map};
 use riptide_reference::programs::{assemble, bytes_of, map_of};
 use riptide_reference::run::{run, RunAnswer};
 use riptide_reference::table::Verdict;
-use riptide_reference::word::{decode, Word, Word::*};
+use riptide_reference::word::{decode, encode, Word, Word::*};
 
 fn word(word: Word) -> u16 {
     assemble(&[word])[0]
@@ -72,7 +72,7 @@ fn call_executed_by_xec_pushes_the_address_after_the_xec() {
     let mut words = vec![0u16; 256];
     words[10] = word(XecRegister { s: 0, i: 100 });
     words[100] = word(Call { i: 200 });
-    words[200] = word(Ret);
+    words[200] = word(Ret { i: 0 });
     let (after, _) = run_words(&words, State { pc: 10, ..fresh() }, 2);
     assert_eq!((after.pc, after.depth, after.returns[0]), (200, 1, 11));
     let (after, _) = run_words(&words, State { pc: 10, ..fresh() }, 3);
@@ -156,8 +156,14 @@ fn bank_xec_wants_a_length_of_1_to_5() {
         assert_eq!(decode(bits) != Invalid, (1..=5).contains(&l), "L {l}");
         assert_ne!(decode(bits + 0x2000), Invalid);
     }
-    assert_eq!(decode(0xaf00), Ret);
-    assert!((1..256).all(|low| decode(0xaf00 + low) == Invalid));
+}
+
+#[test]
+fn ret_has_any_low_byte() {
+    for i in 0..256 {
+        assert_eq!((decode(0xaf00 + i), encode(Ret { i })), (Ret { i }, Ok(0xaf00 + i)));
+    }
+    assert_eq!(encode(Ret { i: 256 }), Err(22));
 }
 
 #[test]
@@ -194,7 +200,7 @@ fn the_last_address_of_the_largest_image() {
     // CALL there pushes 8,192, and RET goes back to it.
     let mut words = vec![0u16; 8192];
     words[8191] = word(Call { i: 4 });
-    words[4] = word(Ret);
+    words[4] = word(Ret { i: 0 });
     let (after, answer) = run_words(&words, State { pc: 8191, ..fresh() }, 1);
     assert_eq!((after.returns[0], answer), (8192, RunAnswer::Ran { count: 1, stop: 0 }));
     let (after, answer) = run_words(&words, after, 2);
@@ -271,7 +277,8 @@ fn each_step_question_stops_and_changes_nothing_else() {
         (word(Move { s: 1, rl: 0, d: 0o17 }), full, 25),
         (word(Move { s: 0o27, rl: 0, d: 0o17 }), full, 23),
         (word(Call { i: 0 }), full, 26),
-        (word(Ret), empty, 27),
+        (word(Ret { i: 0 }), empty, 27),
+        (word(Ret { i: 255 }), empty, 27),
         (0x0008, full, 22),
     ] {
         let (after, record) = one_with(&map, bad, state, [0xff, 0xff]);

@@ -89,15 +89,17 @@ fn an_empty_recording_counts_nothing() {
     }
 }
 
-/// Runs both emulators and compares answer, state and trace.
-fn compare(image: &[u8], map: &[u8], state: &[u8; 36], recording: &[u8]) -> (RunAnswer, [u8; 36]) {
-    let results = BOTH.map(|runner| {
+type Outcome = (RunAnswer, [u8; 36], Vec<u8>);
+
+/// Runs both emulators, which give the same answer, state and trace.
+fn compare(image: &[u8], map: &[u8], state: &[u8; 36], recording: &[u8]) -> Outcome {
+    let [result, other] = BOTH.map(|runner| {
         let (mut after, mut trace) = (*state, vec![0xa5; 2 * recording.len()]);
         let answer = runner(image, map, &mut after, recording, &mut trace);
         (answer, after, trace)
     });
-    assert_eq!(results[0], results[1]);
-    (results[0].0, results[0].1)
+    assert_eq!(result, other);
+    result
 }
 
 #[test]
@@ -108,10 +110,11 @@ fn direct_emulator_agrees_on_random_images() {
     for case in 0..6000u32 {
         let words = 1 + random.below(if case % 50 == 0 { 8192 } else { 300 });
         let bits = random_words(&mut random, words, 1);
+        let bits = with_return_bytes(&mut random, &bits);
         let map = if random.chance(50) { ALL.to_vec() } else { lcg_bytes(case, 128) };
         let state = random_state(&mut random, words).to_bytes();
         let recording = lcg_bytes(case, 600);
-        let (answer, after) = compare(&bytes_of(&bits), &map, &state, &recording);
+        let (answer, after, _) = compare(&bytes_of(&bits), &map, &state, &recording);
         assert!(State::from_bytes(&after).is_some(), "a run keeps the state well formed");
         let RunAnswer::Ran { count, stop } = answer else { panic!("refused") };
         steps += count;
@@ -122,13 +125,24 @@ fn direct_emulator_agrees_on_random_images() {
 }
 
 #[test]
+fn return_bytes_change_no_run() {
+    let mut random = Random(13);
+    for words in [timing_words(), dispatch_words(), nested_words()] {
+        let other = with_return_bytes(&mut random, &words);
+        assert_ne!(words, other);
+        let ran = |words: &[u16]| compare(&bytes_of(words), &ALL, &[0; 36], &lcg_bytes(7, 20_000));
+        assert!(ran(&words) == ran(&other));
+    }
+}
+
+#[test]
 fn direct_emulator_agrees_on_the_timing_image() {
     let (image, map) = (bytes_of(&timing_words()), timing_map());
     let verdict = admit(&image, &map, &mut vec![0; 72 * image.len()]).verdict;
     assert_eq!(verdict, Verdict::Admitted);
     let mut state = [0; 36];
     for seed in 0..3 {
-        let (answer, after) = compare(&image, &map, &state, &lcg_bytes(seed, 65_536));
+        let (answer, after, _) = compare(&image, &map, &state, &lcg_bytes(seed, 65_536));
         assert_eq!(answer, RunAnswer::Ran { count: 32_768, stop: 0 });
         state = after;
     }

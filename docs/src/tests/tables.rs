@@ -63,7 +63,18 @@ fn sweeps_and_rounds_agree_on_loose_words() {
     for case in 0..400 {
         let count = 1 + random.below(if case % 20 == 0 { 300 } else { 40 });
         let words = random_words(&mut random, count, 5);
-        agree(&words, &random_map(&mut random));
+        let (words, map) = (with_return_bytes(&mut random, &words), random_map(&mut random));
+        agree(&words, &map);
+    }
+}
+
+#[test]
+fn return_bytes_change_no_table() {
+    let mut random = Random(24);
+    for _ in 0..200 {
+        let words = random_program(&mut random, 6, 8);
+        let (other, map) = (with_return_bytes(&mut random, &words), random_map(&mut random));
+        assert!(admit_words(&words, &map) == admit_words(&other, &map), "{other:04x?}");
     }
 }
 
@@ -86,7 +97,7 @@ fn sweeps_and_rounds_agree_with_calls_of_unknown_aux() {
 fn each_finding_at_each_depth() {
     for depth in 0..=8 {
         let at = body_at(depth);
-        let end = if depth == 0 { Jmp { a: 0 } } else { Ret };
+        let end = if depth == 0 { Jmp { a: 0 } } else { Ret { i: 0 } };
         let put = |words: &[riptide_reference::word::Word]| {
             let body: Vec<_> = words.iter().copied().chain([end]).collect();
             nested(depth, &assemble(&body))
@@ -109,11 +120,13 @@ fn each_finding_at_each_depth() {
         let xec = XecRegister { s: 1, i: at };
         assert_eq!(finding(&put(&[xec]), &map), (29, depth, low));
     }
-    let call = nested(8, &assemble(&[Call { i: 0 }, Ret]));
+    let call = nested(8, &assemble(&[Call { i: 0 }, Ret { i: 0 }]));
     assert_eq!(finding(&call, &ALL), (26, 8, 24));
-    assert_eq!(finding(&assemble(&[Ret]), &ALL), (27, 0, 0));
+    for i in [0, 1, 255] {
+        assert_eq!(finding(&assemble(&[Ret { i }]), &ALL), (27, 0, 0));
+    }
     // Without a way back nothing returns: the RET is never reached.
-    assert_eq!(finding(&assemble(&[Call { i: 0 }, Ret]), &ALL), (26, 8, 0));
+    assert_eq!(finding(&assemble(&[Call { i: 0 }, Ret { i: 0 }]), &ALL), (26, 8, 0));
 }
 
 #[test]
@@ -132,7 +145,7 @@ fn questions_come_in_order() {
     let words = assemble(&[Move { s: 0o27, rl: 0, d: 0 }, Call { i: 0 }, Jmp { a: 0 }]);
     assert_eq!(finding(&words, &ALL), (28, 0, 1));
     // CALL whose return address is N.
-    assert_eq!(finding(&assemble(&[Jmp { a: 2 }, Ret, Call { i: 1 }]), &ALL), (21, 0, 2));
+    assert_eq!(finding(&assemble(&[Jmp { a: 2 }, Ret { i: 0 }, Call { i: 1 }]), &ALL), (21, 0, 2));
 }
 
 #[test]
@@ -216,8 +229,8 @@ fn sweep_counts_by_hand() {
     assert_eq!(sweeps(&[0xe003, 0xe001, 0xe001, 0xe002]), 2);
     assert_eq!(sweeps(&[0xe004, 0xe001, 0xe001, 0xe002, 0xe003]), 3);
     // CALL down in one sweep, RET back up in the same, seen by the next.
-    assert_eq!(sweeps(&assemble(&[Call { i: 2 }, Jmp { a: 1 }, Ret])), 1);
-    assert_eq!(sweeps(&assemble(&[Call { i: 3 }, Jmp { a: 2 }, Jmp { a: 0 }, Ret])), 2);
+    assert_eq!(sweeps(&assemble(&[Call { i: 2 }, Jmp { a: 1 }, Ret { i: 0 }])), 1);
+    assert_eq!(sweeps(&assemble(&[Call { i: 3 }, Jmp { a: 2 }, Jmp { a: 0 }, Ret { i: 0 }])), 2);
 }
 
 #[test]

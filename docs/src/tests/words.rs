@@ -12,8 +12,8 @@ fn valid_words_come_back_equal() {
             assert_eq!(encode(decoded), Ok(word));
         }
     }
-    assert_eq!(valid, [5200, 5200, 5200, 5200, 4864, 6657, 6656, 8192]);
-    assert_eq!(valid.iter().sum::<usize>(), 47_169);
+    assert_eq!(valid, [5200, 5200, 5200, 5200, 4864, 6912, 6656, 8192]);
+    assert_eq!(valid.iter().sum::<usize>(), 47_424);
     assert_eq!(encode(Invalid), Err(22));
 }
 
@@ -53,7 +53,7 @@ fn fields_outside_their_lists_get_22() {
     assert_eq!(accepted(pairs().map(|(s, i)| NztRegister { s, i })), 9 * 256);
     assert_eq!(accepted(triples().map(|(s, l, i)| NztBank { s, l, i })), 16 * 256);
     assert_eq!(accepted((0..=65_535).map(|i| Call { i })), 256);
-    assert_eq!(accepted([Ret].into_iter()), 1);
+    assert_eq!(accepted((0..=65_535).map(|i| Ret { i })), 256);
     assert_eq!(accepted(pairs().map(|(d, i)| XmitRegister { d, i })), 10 * 256);
     assert_eq!(accepted(triples().map(|(d, l, i)| XmitBank { d, l, i })), 16 * 256);
     assert_eq!(accepted((0..=65_535).map(|a| Jmp { a })), 8192);

@@ -98,7 +98,8 @@ mod raw {
     }
 }
 
-/// A word's opcode and its fields in the order of their bits; a field that the word does not have is 0.
+/// A word's opcode and its fields in the order of their bits; a field that the word does not have is 0. CALL has opcode 5,
+/// 7 and its constant, RET opcode 5, 15 and its low byte.
 #[derive(Clone, Copy, Debug, PartialEq, Eq)]
 pub struct Fields {
     pub opcode: u8,

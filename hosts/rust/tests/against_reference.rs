@@ -4,7 +4,7 @@
 use riptide::{admit, count_sets, read_word, reset, run, table_length, write_word};
 use riptide::{AdmitAnswer, Fields, Refusal, RunAnswer};
 use riptide_reference::digest::Random;
-use riptide_reference::programs::{bytes_of, damage, random_map, random_program, random_state, random_words};
+use riptide_reference::programs::{bytes_of, damage, random_map, random_program, random_state, random_words, with_return_bytes};
 use riptide_reference::run as reference;
 use riptide_reference::table::{admit as reference_admit, Verdict};
 use riptide_reference::word::{decode, encode, is_bank, Word};
@@ -26,7 +26,7 @@ fn random_bytes(random: &mut Random, count: usize) -> Vec<u8> {
     (0..count).map(|_| random.below(256) as u8).collect()
 }
 
-/// An image of valid words, of a program, or of any words.
+/// An image of valid words, of a program, or of any words; a RET has any low byte.
 fn image(random: &mut Random) -> Vec<u8> {
     let words = match random.below(3) {
         0 => random_program(random, 6, 8),
@@ -37,7 +37,7 @@ fn image(random: &mut Random) -> Vec<u8> {
             words
         }
     };
-    bytes_of(&words)
+    bytes_of(&with_return_bytes(random, &words))
 }
 
 #[test]
@@ -135,7 +135,7 @@ fn fields_of(word: Word) -> Result<Fields, u8> {
         Word::NztRegister { s, i } => (5, [s, i, 0]),
         Word::NztBank { s, l, i } => (5, [s, l, i]),
         Word::Call { i } => (5, [7, i, 0]),
-        Word::Ret => (5, [15, 0, 0]),
+        Word::Ret { i } => (5, [15, i, 0]),
         Word::XmitRegister { d, i } => (6, [d, i, 0]),
         Word::XmitBank { d, l, i } => (6, [d, l, i]),
         Word::Jmp { a } => (7, [a, 0, 0]),
@@ -155,7 +155,7 @@ fn every_word_read_and_written() {
             assert_eq!(write_word(fields), Ok(word), "word {word:04x}");
         }
     }
-    assert_eq!(valid, 47_169);
+    assert_eq!(valid, 47_424);
 }
 
 /// The word of an opcode and fields by the reference, a field that it does not have being 0.
@@ -171,7 +171,7 @@ fn written([op, a, b, c]: [u16; 4]) -> Result<u16, u8> {
         (6, _) if bank => Word::XmitBank { d: a, l: b, i: c },
         (4, 0) => Word::XecRegister { s: a, i: b },
         (5, 0) if a == 7 => Word::Call { i: b },
-        (5, 0) if a == 15 && b == 0 => Word::Ret,
+        (5, 0) if a == 15 => Word::Ret { i: b },
         (5, 0) => Word::NztRegister { s: a, i: b },
         (6, 0) => Word::XmitRegister { d: a, i: b },
         (7, 0) if b == 0 => Word::Jmp { a },

@@ -103,7 +103,9 @@ fn the_station_in_c() {
         let input = fs::File::open(root().join(name)).expect(name);
         output(&mut Command::new(&program), input.into())
     };
-    assert_eq!(station("samples/indicator.bin"), "admitted, left 1 0 right 0 1\nran 1000 steps, stop 0\n");
+    for admitted in ["samples/indicator.bin", "samples/routine.bin"] {
+        assert_eq!(station(admitted), "admitted, left 1 0 right 0 1\nran 1000 steps, stop 0\n", "{admitted}");
+    }
     assert_eq!(
         station("samples/odometer.bin"),
         "refused 28 depth 0 address 3: an address or a CALL's page is not known\n"
@@ -143,7 +145,7 @@ int main(void)
 
 #[test]
 fn the_header_in_c_and_cpp() {
-    let mut expected = format!("{}\n10000 ", env!("CARGO_PKG_VERSION"));
+    let mut expected = format!("{}\n10100 ", env!("CARGO_PKG_VERSION"));
     expected += &format!("{MAP_BYTES} {MAP_BYTES} {STATE_BYTES} 16384 16384 144 144 2 4 ");
     expected += "11 12 13 14 15 16 18 21 22 23 24 25 26 27 28 29 ";
     expected += &format!("{}\n", table_length(&[0; 7]));
@@ -185,7 +187,9 @@ fn findings_of_the_guide() {
     for (number, words, sets, (depth, address)) in findings {
         assert_eq!(answer(words, sets), AdmitAnswer::Found { number, depth, address }, "{words}");
     }
-    assert_eq!(answer("0000 E000", all), AdmitAnswer::Admitted);
+    for admitted in ["0000 E000", "A702 E000 AF81"] {
+        assert_eq!(answer(admitted, all), AdmitAnswer::Admitted, "{admitted}");
+    }
 }
 
 /// Bytes in hexadecimal, where `00*9` is nine bytes 00.
@@ -204,20 +208,21 @@ int main(void)
 {
     static uint8_t table[RIPTIDE_TABLE_BYTES(sizeof image)], table2[RIPTIDE_TABLE_BYTES(sizeof image2)];
     uint8_t state[RIPTIDE_STATE_BYTES], trace[sizeof recording / RIPTIDE_PAIR_BYTES * RIPTIDE_TRACE_RECORD_BYTES];
-    uint64_t numbers[5];
+    uint64_t numbers[6];
     int i;
     riptide_reset(state, sizeof state);
     numbers[0] = riptide_read_word(0x173f);
-    numbers[1] = riptide_count_sets(map, sizeof map);
-    numbers[2] = riptide_admit(image, sizeof image, map, sizeof map, table, sizeof table);
-    numbers[3] = riptide_run(image, sizeof image, map, sizeof map, state, sizeof state, recording, sizeof recording,
+    numbers[1] = riptide_read_word(0xaf81);
+    numbers[2] = riptide_count_sets(map, sizeof map);
+    numbers[3] = riptide_admit(image, sizeof image, map, sizeof map, table, sizeof table);
+    numbers[4] = riptide_run(image, sizeof image, map, sizeof map, state, sizeof state, recording, sizeof recording,
                              trace, sizeof trace);
-    numbers[4] = riptide_admit(image2, sizeof image2, map2, sizeof map2, table2, sizeof table2);
+    numbers[5] = riptide_admit(image2, sizeof image2, map2, sizeof map2, table2, sizeof table2);
     fwrite(trace, 1, sizeof trace, stdout);
     fwrite(state, 1, sizeof state, stdout);
     fwrite(table + RIPTIDE_TABLE_RECORD_BYTES * 2, 1, RIPTIDE_TABLE_RECORD_BYTES, stdout);
     fwrite(table2 + RIPTIDE_TABLE_RECORD_BYTES * 3, 1, RIPTIDE_TABLE_RECORD_BYTES, stdout);
-    for (i = 0; i < 5; i++)
+    for (i = 0; i < 6; i++)
         printf("%016llX\n", (unsigned long long)numbers[i]);
     return 0;
 }

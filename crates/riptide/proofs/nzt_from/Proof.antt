@@ -24,13 +24,13 @@ returns-4 : tie.Need-returns-4
 unfolding nztFrom
 returns-4 c =
     let start = c .before .before .before .before .before in
-    rw (sym (c .before .before .before .before .is-bank .ensures) ∙ c .before .before .before .if1 .left, eq-eqb (start .args .c) 0 (c .before .before .if2 .left), ne-eqb (start .args .s) 7 (c .before .if3 .left), c .if4 .taken) refl
+    rw (sym (c .before .before .before .before .is-bank .ensures) ∙ c .before .before .before .if1 .left, eq-eqb (start .args .c) 0 (c .before .before .if2 .left), ne-eqb (start .args .s) 7 (c .before .if3 .left), eq-eqb (start .args .s) 15 (c .if4 .taken)) refl
 
 returns-5 : tie.Need-returns-5
 unfolding nztFrom
 returns-5 c =
     let start = c .before .before .before .before .before in
-    rw (sym (c .before .before .before .before .is-bank .ensures) ∙ c .before .before .before .if1 .left, eq-eqb (start .args .c) 0 (c .before .before .if2 .left), ne-eqb (start .args .s) 7 (c .before .if3 .left), c .if4 .left) refl
+    rw (sym (c .before .before .before .before .is-bank .ensures) ∙ c .before .before .before .if1 .left, eq-eqb (start .args .c) 0 (c .before .before .if2 .left), ne-eqb (start .args .s) 7 (c .before .if3 .left), ne-eqb (start .args .s) 15 (c .if4 .left)) refl
 
 pub nzt-from-spec : {M : Type 1} → statement M
 nzt-from-spec =

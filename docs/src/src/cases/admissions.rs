@@ -96,15 +96,17 @@ fn faulty_bodies(at: u16) -> Vec<(u8, Vec<u16>)> {
 fn faults() -> Vec<Case> {
     let mut cases = Vec::new();
     for depth in [0, 1, 4, 8] {
-        let end = assemble(&[if depth == 0 { Jmp { a: 0 } } else { Ret }]);
+        let end = assemble(&[if depth == 0 { Jmp { a: 0 } } else { Ret { i: 0 } }]);
         for (number, body) in faulty_bodies(body_at(depth)) {
             let words = nested(depth, &[body, end.clone()].concat());
             cases.push(Case::new(&format!("fault{number}-depth{depth}"), &words, sparse_map()));
         }
     }
-    let ninth = nested(8, &assemble(&[Call { i: 0 }, Ret]));
+    let ninth = nested(8, &assemble(&[Call { i: 0 }, Ret { i: 0 }]));
     cases.push(Case::new("fault26-depth8", &ninth, ALL_ONES));
-    cases.push(Case::new("fault27-depth0", &assemble(&[Jmp { a: 1 }, Ret]), ALL_ONES));
+    for (name, i) in [("fault27-depth0", 0), ("fault27-return-byte", 1)] {
+        cases.push(Case::new(name, &assemble(&[Jmp { a: 1 }, Ret { i }]), ALL_ONES));
+    }
     cases
 }
 
@@ -113,9 +115,9 @@ fn executed_faults() -> Vec<Case> {
     let mut cases = Vec::new();
     for depth in [0, 8] {
         let at = body_at(depth);
-        let end = if depth == 0 { Jmp { a: 0 } } else { Ret };
+        let end = if depth == 0 { Jmp { a: 0 } } else { Ret { i: 0 } };
         let call = if depth == 8 { 26 } else { 27 };
-        let extra = assemble(&[if depth == 8 { Call { i: 0 } } else { Ret }]);
+        let extra = assemble(&[if depth == 8 { Call { i: 0 } } else { Ret { i: 0 } }]);
         let mut bodies = faulty_bodies(at);
         bodies.push((call, extra));
         for (number, mut body) in bodies {
@@ -150,6 +152,21 @@ fn named() -> Vec<Case> {
         Case::new("timing", &timing_words(), timing),
         Case::new("dispatch", &dispatch_words(), ALL_ONES),
         Case::new("nested", &nested_words(), ALL_ONES),
+    ]
+}
+
+/// RETs with low bytes that are not zero: called, and executed by an XEC.
+fn return_bytes() -> Vec<Case> {
+    let mut random = Random(43);
+    let called = assemble(&[Call { i: 2 }, Jmp { a: 0 }, Ret { i: 0o201 }]);
+    let mut case = |name: &str, words: &[u16]| {
+        let name = format!("return-bytes-{name}");
+        Case::new(&name, &with_return_bytes(&mut random, words), ALL_ONES)
+    };
+    vec![
+        Case::new("return-byte", &called, ALL_ONES),
+        case("dispatch", &dispatch_words()),
+        case("nested", &nested_words()),
     ]
 }
 
@@ -219,7 +236,8 @@ fn doors() -> Vec<Case> {
 
 /// All admissions.
 pub fn cases() -> Vec<Case> {
-    [named(), faults(), executed_faults(), random_cases(), large(), doors()].concat()
+    [named(), faults(), executed_faults(), random_cases(), large(), return_bytes(), doors()]
+        .concat()
 }
 
 pub fn entries() -> Vec<Entry> {

@@ -22,7 +22,7 @@ fn fields(word: Word) -> Option<[u16; 4]> {
         NztRegister { s, i } => Some([5, s, i, 0]),
         NztBank { s, l, i } => Some([5, s, l, i]),
         Call { i } => Some([5, 7, i, 0]),
-        Ret => Some([5, 15, 0, 0]),
+        Ret { i } => Some([5, 15, i, 0]),
         XmitRegister { d, i } => Some([6, d, i, 0]),
         XmitBank { d, l, i } => Some([6, d, l, i]),
         Jmp { a } => Some([7, a, 0, 0]),
@@ -107,7 +107,8 @@ fn kinds() -> Vec<(&'static str, Word)> {
         ("nzt-register", NztRegister { s: 0o10, i: 129 }),
         ("nzt-bank", NztBank { s: 0o20, l: 7, i: 9 }),
         ("call", Call { i: 254 }),
-        ("ret", Ret),
+        ("ret", Ret { i: 0 }),
+        ("ret-173", Ret { i: 173 }),
         ("xmit-register", XmitRegister { d: 0o07, i: 200 }),
         ("xmit-bank", XmitBank { d: 0o33, l: 4, i: 6 }),
         ("jmp", Jmp { a: 8191 }),
@@ -140,6 +141,8 @@ fn encoded() -> Vec<Entry> {
         ("nzt-third", [5, 1, 2, 3]),
         ("call-256", [5, 7, 256, 0]),
         ("ret-1", [5, 15, 1, 0]),
+        ("ret-256", [5, 15, 256, 0]),
+        ("ret-third", [5, 15, 0, 1]),
         ("xmit-third", [6, 0, 0, 1]),
         ("xmit-bank-32", [6, 16, 0, 32]),
         ("jmp-8192", [7, 8192, 0, 0]),
@@ -190,7 +193,7 @@ fn begins(name: &str, with: &[&str]) -> bool {
 
 /// Some of the admissions: each refusal, findings at depths 0 and 8, admitted.
 fn admitted() -> Vec<Entry> {
-    let some = ["door", "example", "timing", "fault26", "fault27", "executed", "call"];
+    let some = ["door", "example", "timing", "fault26", "fault27", "executed", "call", "return"];
     let case = |case: admissions::Case| {
         let mut table = vec![FILLER; case.table_bytes];
         let verdict = admit(&case.image.expand(), &case.map.expand(), &mut table).verdict;

@@ -108,6 +108,12 @@ fn chains() -> Vec<Case> {
         let lent = [whole(11, 12_000), whole(12, 3), whole(13, 4_000)];
         cases.extend(chain(name, Bytes::Hex(bytes_of(&words)), ALL_ONES, &lent));
     }
+    let mut random = Random(54);
+    for (name, words) in [("dispatch", dispatch_words()), ("nested", nested_words())] {
+        let image = Bytes::Hex(bytes_of(&with_return_bytes(&mut random, &words)));
+        let name = format!("return-bytes-{name}");
+        cases.extend(chain(&name, image, ALL_ONES, &[whole(11, 12_000), whole(12, 3)]));
+    }
     cases
 }
 

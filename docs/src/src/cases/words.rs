@@ -15,7 +15,7 @@ fn listed(word: Word) -> (u8, [u16; 3]) {
         NztRegister { s, i } => (6, [s, 0, i]),
         NztBank { s, l, i } => (7, [s, l, i]),
         Call { i } => (8, [0, 0, i]),
-        Ret => (9, [0, 0, 0]),
+        Ret { i } => (9, [0, 0, i]),
         XmitRegister { d, i } => (10, [d, 0, i]),
         XmitBank { d, l, i } => (11, [d, l, i]),
         Jmp { a } => (12, [0, 0, a]),
@@ -35,7 +35,7 @@ fn of_kind(kind: u8, [a, b, c]: [u16; 3]) -> Word {
         6 => NztRegister { s: a, i: c },
         7 => NztBank { s: a, l: b, i: c },
         8 => Call { i: c },
-        9 => Ret,
+        9 => Ret { i: c },
         10 => XmitRegister { d: a, i: c },
         11 => XmitBank { d: a, l: b, i: c },
         12 => Jmp { a: c },
@@ -127,6 +127,7 @@ pub fn lines() -> Vec<String> {
     lines.push(write_line(8, [0, 0, 255]));
     lines.push(write_line(8, [0, 0, 300]));
     lines.push(write_line(9, [0, 0, 0]));
+    lines.push(write_line(9, [0, 0, 300]));
     lines.push(write_line(12, [0, 0, 8300]));
     lines
 }

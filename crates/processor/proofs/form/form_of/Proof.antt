@@ -1,4 +1,4 @@
--- `machine::form::form_of` meets its contract: each kind of word has the shape that its form stands for. Assumes nothing.
+-- `processor::form::form_of` meets its contract: each kind of word has the shape that its form stands for. Assumes nothing.
 use mathlib.Core.Path.{refl}
 use native.Mathlib.Omega.{arith}
 use Rattle.processor.specs.declared.form.Form.the-variants.{Jump, Call, Return, Invalid}
@@ -40,14 +40,14 @@ form-of-spec =
     (λ c. search needs)
     (λ c. formed {r = Call _} (c .before .word9 .given .1) refl (c .before .before .before .pre) (λ h. (refl, h)))
     (λ c. search needs)
-    (λ c. formed {r = Return} (c .enum-told .given .1) refl (c .before .before .pre) (λ h. (refl, tt)))
+    (λ c. formed {r = Return} (c .before .word10 .given .1) refl (c .before .before .before .pre) (λ h. (refl, tt)))
     (λ c. search needs)
     (λ c κs. search needs)
-    (λ c. formed (c .before .before .word10 .given .1) (c .transmission .ensures) (c .before .before .before .before .pre) (λ h. (refl, (omega arith, h .2))))
+    (λ c. formed (c .before .before .word11 .given .1) (c .transmission .ensures) (c .before .before .before .before .pre) (λ h. (refl, (omega arith, h .2))))
     (λ c. search needs)
     (λ c κs. search needs)
-    (λ c. formed (c .before .before .word11 .given .1) (c .transmission2 .ensures) (c .before .before .before .before .pre) (λ h. (refl, (h .2, let i = h .3 in omega arith))))
+    (λ c. formed (c .before .before .word12 .given .1) (c .transmission2 .ensures) (c .before .before .before .before .pre) (λ h. (refl, (h .2, let i = h .3 in omega arith))))
     (λ c. search needs)
-    (λ c. formed {r = Jump _} (c .before .word12 .given .1) refl (c .before .before .before .pre) (λ h. (refl, tt)))
+    (λ c. formed {r = Jump _} (c .before .word13 .given .1) refl (c .before .before .before .pre) (λ h. (refl, tt)))
     (λ c. search needs)
-    (λ c. formed {r = Invalid} (c .enum-told2 .given .1) refl (c .before .before .pre) (λ h. (refl, tt))))
+    (λ c. formed {r = Invalid} (c .enum-told .given .1) refl (c .before .before .pre) (λ h. (refl, tt))))
