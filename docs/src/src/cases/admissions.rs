@@ -209,7 +209,7 @@ fn large() -> Vec<Case> {
         Case::of("jump-8192", fill(0xe000, 8192), ALL_ONES),
         Case::of("call-8192", fill(0xa7ff, 8192), ALL_ONES),
         Case::of("valid-2", Bytes::Valid { seed: 2, count: 8192 }, ALL_ONES),
-        Case::of("valid-3", Bytes::Valid { seed: 3, count: 8192 }, ALL_ONES),
+        Case::of("valid-3", Bytes::Valid { seed: 3, count: 2048 }, ALL_ONES),
         Case::of("any-5", Bytes::Lcg { seed: 5, count: 1000 }, Bytes::Lcg { seed: 6, count: 128 }),
     ]
 }
