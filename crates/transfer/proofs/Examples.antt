@@ -59,6 +59,9 @@ examples =
     -- 27: a RET at depth 0; and one level down, back to behind the CALL
     after-sweeps 0 (0xAF ∷ 0x00 ∷ 0xE0 ∷ 0x00 ∷ []) open-map ∷
     after-sweeps 1 (0xA7 ∷ 0x02 ∷ 0xE0 ∷ 0x01 ∷ 0xAF ∷ 0x00 ∷ []) open-map ∷
+    -- the same with low bytes that are not zero (2026-01)
+    after-sweeps 0 (0xAF ∷ 0x01 ∷ 0xE0 ∷ 0x00 ∷ []) open-map ∷
+    after-sweeps 1 (0xA7 ∷ 0x02 ∷ 0xE0 ∷ 0x01 ∷ 0xAF ∷ 0xFF ∷ []) open-map ∷
     -- 28: a left address from data
     after-sweeps 1 (0x17 ∷ 0x07 ∷ 0xE0 ∷ 0x01 ∷ []) open-map ∷
     -- 29: XEC of itself; 25: of the fourth word, which a field of one bit may give
@@ -69,6 +72,6 @@ told-examples : examples ≡
     (0 ∷ 9 ∷ 0 ∷ []) ∷ (0 ∷ 45 ∷ 0 ∷ []) ∷ (0 ∷ 3 ∷ 24 ∷ []) ∷
     (0 ∷ 0 ∷ 21 ∷ []) ∷ (0 ∷ 0 ∷ 21 ∷ []) ∷ (0 ∷ 18 ∷ 0 ∷ []) ∷ (0 ∷ 0 ∷ 21 ∷ []) ∷
     (0 ∷ 0 ∷ 22 ∷ []) ∷ (0 ∷ 1 ∷ 23 ∷ []) ∷ (0 ∷ 0 ∷ 25 ∷ []) ∷ (0 ∷ 16 ∷ 26 ∷ []) ∷
-    (0 ∷ 0 ∷ 27 ∷ []) ∷ (0 ∷ 27 ∷ 0 ∷ []) ∷ (0 ∷ 0 ∷ 28 ∷ []) ∷ (0 ∷ 0 ∷ 29 ∷ []) ∷ (0 ∷ 0 ∷ 25 ∷ []) ∷ []
+    (0 ∷ 0 ∷ 27 ∷ []) ∷ (0 ∷ 27 ∷ 0 ∷ []) ∷ (0 ∷ 0 ∷ 27 ∷ []) ∷ (0 ∷ 27 ∷ 0 ∷ []) ∷ (0 ∷ 0 ∷ 28 ∷ []) ∷ (0 ∷ 0 ∷ 29 ∷ []) ∷ (0 ∷ 0 ∷ 25 ∷ []) ∷ []
 unfolding examples after-sweeps told open-map only panel firstFinding inSet allBelow findingAt rotateRight decoded shapeOf slotOf resultOf joinAll changesAll sweepFrom sweepChangesFrom sweeps allKnowNoMore joinFacts resultFact carryFact withCarryFact holdsCell joinCell maskOf recordOf readCell cellAt putRecord over overDown gives wordsAt some wordPasses allPasses
 told-examples = refl
