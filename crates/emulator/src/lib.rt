@@ -5,7 +5,7 @@ ghost use lib.ListN.{length};
 ghost use Rattle.state.specs.State.{stateLength};
 ghost use Rattle.machine.specs.Parts.{whole};
 ghost use Rattle.emulator.specs.Run.{recordLength, ranOver, writtenOver, imageFits, yielded, ended, runResult};
-ghost use Rattle.emulator.specs.Parts.{traceRecordOf, TraceBytes, sequencerOf, ranTo, laidOver, Accepted};
+ghost use Rattle.emulator.specs.Parts.{traceRecordOf, TraceBytes, sequencerOf, lastState, ranTo, laidOver, Accepted};
 use machine::Effect;
 use machine::Sequencer;
 use state::State;
@@ -87,6 +87,23 @@ fn steps(
     Last { q, count, stop: 0 }
 }
 
+// The state that the steps of a run leave.
+fn last_state(last: Last, values: [u8; 11], latches: [u8; 2], returns: [u16; 8]) -> State
+    ensures { λ r. ⌜ r ≡ lastState last values latches returns ⌝ }
+{
+    let q = last.q;
+    State {
+        pc: q.pc,
+        flag: q.flag,
+        pending: q.pending,
+        values,
+        latches,
+        depth: q.depth,
+        returns,
+        stop: last.stop,
+    }
+}
+
 // The steps of a run from a state that is not stopped, and the state stored.
 fn run_from(
     image: &[u8],
@@ -118,17 +135,7 @@ fn run_from(
         &mut returns,
         trace,
     );
-    let q = last.q;
-    let after = State {
-        pc: q.pc,
-        flag: q.flag,
-        pending: q.pending,
-        values,
-        latches,
-        depth: q.depth,
-        returns,
-        stop: last.stop,
-    };
+    let after = last_state(last, values, latches, returns);
     state::store(after, state);
     RunAnswer::Ended {
         count: last.count,

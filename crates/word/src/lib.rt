@@ -124,10 +124,10 @@ fn decode_nzt(s: usize, l: usize, short: usize, i: usize) -> Word
     if s == 7 {
         return Word::Call { i };
     }
-    if s == 15 {
-        return Word::Ret { i };
+    if s != 15 {
+        return Word::Invalid;
     }
-    Word::Invalid
+    Word::Ret { i }
 }
 
 fn decode_xmit(d: usize, l: usize, short: usize, i: usize) -> Word

@@ -21,8 +21,8 @@ decode-nzt-spec =
     (λ c.
     let d = c .before .before in
     let e = d .before .before in
-    simp (← e .before .is-bank .ensures, e .if1 .left, ← d .before .is-register-source .ensures, d .if2 .left, ne-eqb _ _ (c .before .if3 .left), eq-eqb _ _ (c .if4 .taken)))
+    simp (← e .before .is-bank .ensures, e .if1 .left, ← d .before .is-register-source .ensures, d .if2 .left, ne-eqb _ _ (c .before .if3 .left), ne-eqb _ _ (c .if4 .taken)))
     (λ c.
     let d = c .before .before in
     let e = d .before .before in
-    simp (← e .before .is-bank .ensures, e .if1 .left, ← d .before .is-register-source .ensures, d .if2 .left, ne-eqb _ _ (c .before .if3 .left), ne-eqb _ _ (c .if4 .left))))
+    simp (← e .before .is-bank .ensures, e .if1 .left, ← d .before .is-register-source .ensures, d .if2 .left, ne-eqb _ _ (c .before .if3 .left), eq-eqb _ _ (c .if4 .left))))
