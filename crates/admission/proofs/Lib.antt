@@ -1,7 +1,9 @@
 pub mod Same
 pub mod Marking
+pub mod Lowest
 pub mod Verdict
 pub mod Marks
 pub mod Door
 pub mod Filled
 pub mod Range
+pub mod OneAnswer

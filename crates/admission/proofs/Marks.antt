@@ -1,11 +1,14 @@
--- The loop over the cells, depth by depth: it writes the findings and keeps the first. Assumes nothing.
+-- The loop over the cells, depth by depth: it writes the findings and keeps the lowest. Assumes nothing.
 use mathlib.Core.Path.{_≡_, sym, _∙_, ap, ap₂, subst, subst⁻¹}
+use mathlib.Core.Logic.{_≢_}
 use mathlib.Core.List.{List}
 use Prim.Native.Nat.{ℕ, suc, _+_, _-_, _*_, _≤_, _<_}
 use native.Mathlib.Omega.{arith}
 use native.Mathlib.Nat.{suc-mul, mul-le-mul-right}
 use lib.Arith.{digits-lt}
+use lib.Dec.{eqb}
 use lib.ListN.{length}
+use Rattle.choice.specs.Choice.{pick}
 use Rattle.machine.specs.Step.{wordCount}
 use Rattle.facts.specs.declared.Cell.{Cell}
 use Rattle.facts.specs.Record.{recordSize, depths, recordOf, cellAt, putRecord, FineCell}
@@ -13,9 +16,10 @@ use Rattle.callers.specs.Callers.{Held}
 use Rattle.transfer.specs.Passes.{pointAt}
 use Rattle.transfer.specs.Findings.{findingAt}
 use Rattle.admission.specs.declared.AdmitAnswer.the-variants.{Admitted, Found}
+use Rattle.admission.specs.declared.Named.{Named}
 use Rattle.admission.specs.Admission.{withFindings, verdictOf}
 use Rattle.admission.proofs.Marking.{Marking, marking-begins, marking-ends, marking-fine, marking-finding, marking-goes}
-use Rattle.admission.proofs.Verdict.{Telling, telling-begins, telling-keeps, telling-next, telling-ends}
+use Rattle.admission.proofs.Verdict.{cellFinding, Telling, telling-begins, telling-next, telling-admitted, telling-found}
 
 -- ---- a cell's place
 
@@ -50,62 +54,52 @@ past-all words depth pc h = let row : depths * words ≤ depth * words = mul-le-
 
 -- ---- the loop
 
--- cell i is the next; t is the table now, of t₀; number is the first finding so far, or 0, and then its depth and address
-pub record Marks (image map t₀ : List ℕ) (i : ℕ) (t : List ℕ) (number depth address : ℕ) : Type 0 where
+-- cell i is the next; t is the table now, of t₀; named is the lowest finding so far
+pub record Marks (image map t₀ : List ℕ) (i : ℕ) (t : List ℕ) (named : Named) : Type 0 where
   pub marking : Marking image map t₀ i t
-  pub telling : Telling image map t₀ i number depth address
+  pub telling : Telling image map t₀ i named
 
 module _ (image map t₀ : List ℕ) (held : Held image t₀) where
-  pub marks-begin : Marks image map t₀ (pointAt (wordCount image) 0 0) t₀ 0 0 0
-  marks-begin =
+  pub marks-begin : (named : Named) → named .number ≡ 0 → Marks image map t₀ (pointAt (wordCount image) 0 0) t₀ named
+  marks-begin named z =
       let first : 0 ≡ pointAt (wordCount image) 0 0 = omega arith in
-      subst (λ (i : ℕ). Marks image map t₀ i t₀ 0 0 0) first
-      (record { marking = marking-begins image map t₀ (held .long); telling = telling-begins image map t₀ 0 0 })
+      subst (λ (i : ℕ). Marks image map t₀ i t₀ named) first
+      (record { marking = marking-begins image map t₀ (held .long); telling = telling-begins image map t₀ named z })
 
   -- the table on the way
-  pub marks-held : (i : ℕ) (t : List ℕ) (number depth address : ℕ) → Marks image map t₀ i t number depth address → Held image t
-  marks-held i t number depth address m =
+  pub marks-held : (i : ℕ) (t : List ℕ) (named : Named) → Marks image map t₀ i t named → Held image t
+  marks-held i t named m =
       record { words = held .words; long = m .marking .long; fine = marking-fine image map t₀ (held .fine) i t (m .marking) }
 
-  -- the cell at a depth and an address: its finding f is written, which leaves u; what is told then; j is the next cell
-  module _ (depth pc : ℕ) (t u : List ℕ) (number before after f : ℕ) (d : depth < depths) (l : pc < wordCount image)
-      (m : Marks image map t₀ (pointAt (wordCount image) depth pc) t number before after)
-      (e : f ≡ findingAt image map t (pointAt (wordCount image) depth pc))
-      (w : u ≡ putRecord t (pointAt (wordCount image) depth pc) (recordOf (cellAt t (pointAt (wordCount image) depth pc)) f))
-      (j : ℕ) (next : j ≡ pointAt (wordCount image) depth pc + 1) (number′ before′ after′ : ℕ) where
-    written : Marking image map t₀ (pointAt (wordCount image) depth pc + 1) u
-    written =
-        let i = pointAt (wordCount image) depth pc in
-        marking-goes image map t₀ (held .fine) i t u (digits-lt d l) (w ∙ ap (λ (x : ℕ). putRecord t i (recordOf (cellAt t i) x)) e) (m .marking)
-
-    told : Telling image map t₀ (pointAt (wordCount image) depth pc + 1) number′ before′ after′ → Marks image map t₀ j u number′ before′ after′
-    told h =
-        subst⁻¹ (λ (k : ℕ). Marks image map t₀ k u number′ before′ after′) next (record { marking = written; telling = h })
-
-    -- where nothing was found before
-    pub marks-new : number ≡ 0 → number′ ≡ f → before′ ≡ depth → after′ ≡ pc → Marks image map t₀ j u number′ before′ after′
-    marks-new z en eb ea =
-        let i = pointAt (wordCount image) depth pc in
-        told
-        (rw (en, eb, ea)
-        (telling-next image map t₀ number before after depth pc f d l z
-        (e ∙ marking-finding image map t₀ (held .fine) i t (m .marking) i (digits-lt d l)) (m .telling)))
-
-    -- where something was
-    pub marks-keep : (number ≡ 0 → ⊥) → number′ ≡ number → before′ ≡ before → after′ ≡ after → Marks image map t₀ j u number′ before′ after′
-    marks-keep z en eb ea =
-        let i = pointAt (wordCount image) depth pc in
-        told (rw (en, eb, ea) (telling-keeps image map t₀ i (i + 1) number before after z (m .telling)))
+  -- the finding of a cell is written, which leaves u, and kept unless a lower one is named; j is the next cell
+  pub marks-next : (t u : List ℕ) (named found kept : Named) → found .depth < depths → found .address < wordCount image
+      → Marks image map t₀ (pointAt (wordCount image) (found .depth) (found .address)) t named
+      → found .number ≡ cellFinding image map t (found .depth) (found .address)
+      → u ≡ putRecord t (pointAt (wordCount image) (found .depth) (found .address))
+      (recordOf (cellAt t (pointAt (wordCount image) (found .depth) (found .address))) (found .number))
+      → kept ≡ pick (eqb (named .number) 0) found named
+      → (j : ℕ) → j ≡ pointAt (wordCount image) (found .depth) (found .address) + 1 → Marks image map t₀ j u kept
+  marks-next t u named found kept deep near m e w q j next =
+      rw (next, q)
+      (record {
+        marking =
+            marking-goes image map t₀ (held .fine) i t u (digits-lt deep near) (w ∙ ap (λ (x : ℕ). putRecord t i (recordOf (cellAt t i) x)) e) (m .marking);
+        telling =
+            telling-next image map t₀ named found deep near
+            (e ∙ marking-finding image map t₀ (held .fine) i t (m .marking) i (digits-lt deep near)) (m .telling);
+      })
+    where
+      i : ℕ
+      i = pointAt (wordCount image) (found .depth) (found .address)
 
   -- past the last depth
-  module _ (depth pc : ℕ) (t : List ℕ) (number before after : ℕ) (past : depths ≤ depth)
-      (m : Marks image map t₀ (pointAt (wordCount image) depth pc) t number before after) where
+  module _ (depth pc : ℕ) (t : List ℕ) (named : Named) (past : depths ≤ depth)
+      (m : Marks image map t₀ (pointAt (wordCount image) depth pc) t named) where
     pub marks-end : t ≡ withFindings image map t₀ t₀ 0 (depths * wordCount image)
     marks-end = marking-ends image map t₀ (pointAt (wordCount image) depth pc) t (past-all (wordCount image) depth pc past) (m .marking)
 
-    pub marks-admitted : number ≡ 0 → Admitted ≡ verdictOf image map t₀
-    marks-admitted z =
-        sym (telling-ends image map t₀ (pointAt (wordCount image) depth pc) number before after (past-all (wordCount image) depth pc past) z (m .telling))
+    pub marks-admitted : named .number ≡ 0 → Admitted ≡ verdictOf image map t₀
+    marks-admitted = telling-admitted image map t₀ (pointAt (wordCount image) depth pc) named (past-all (wordCount image) depth pc past) (m .telling)
 
-    pub marks-found : (number ≡ 0 → ⊥) → Found number before after ≡ verdictOf image map t₀
-    marks-found z = sym (m .telling .found z)
+    pub marks-found : named .number ≢ 0 → Found (named .number) (named .depth) (named .address) ≡ verdictOf image map t₀
+    marks-found = telling-found image map t₀ (pointAt (wordCount image) depth pc) named (past-all (wordCount image) depth pc past) (m .telling)

@@ -3,23 +3,21 @@ use mathlib.Core.Path.{_≡_, subst}
 use mathlib.Core.List.{List}
 use mathlib.Core.Logic.{⊎-elim}
 use Prim.Native.Nat.{ℕ, _*_, _≤_, _<_}
-use native.Mathlib.Nat.{mod-lt, div-lt-iff-lt-mul}
 use native.Mathlib.Omega.{arith}
-use lib.Dec.{ltb, eqb}
+use lib.Dec.{eqb}
 use lib.ListN.{length}
-use borrow.Author.Tests.{ltb-true}
 use Rattle.choice.proofs.Laws.{pick-both, pick-cases}
 use Rattle.map.specs.Map.{mapLength}
 use Rattle.machine.specs.Step.{wordCount}
 use Rattle.emulator.specs.Run.{imageFits}
 use Rattle.facts.specs.Record.{depths}
-use Rattle.transfer.specs.Passes.{tableLength, leastTable}
-use Rattle.transfer.specs.Findings.{firstFinding}
+use Rattle.transfer.specs.Passes.{pointAt, tableLength, leastTable}
 use Rattle.transfer.proofs.Numbers.{finding-number}
 use Rattle.admission.specs.declared.AdmitAnswer.{AdmitAnswer}
 use Rattle.admission.specs.declared.AdmitAnswer.the-variants.{Refused, Admitted, Found}
 use Rattle.admission.specs.Admission.{AdmitResult, verdictOf, admitResult}
-use Rattle.admission.proofs.Verdict.{first-found}
+use Rattle.admission.proofs.Lowest.{Tells, lowest-some}
+use Rattle.admission.proofs.Verdict.{cellFinding, verdict-tells}
 use Rattle.emulator.proofs.Door.{image-words}
 
 -- a verdict refuses nothing
@@ -28,17 +26,15 @@ Told words (Refused number) = ⊥
 Told words Admitted = Unit
 Told words (Found number depth address) = (21 ≤ number) × (number < 30) × (depth < depths) × (address < words)
 
+told : (image map table : List ℕ) (answer : AdmitAnswer) → Tells (wordCount image) (cellFinding image map table) answer → Told (wordCount image) answer
+told image map table (Refused number) t = t
+told image map table Admitted t = tt
+told image map table (Found number depth address) t =
+    ⊎-elim (λ z. absurd (lowest-some t z)) (λ n. (omega (arith, n .0, t .here), omega (arith, n .1, t .here), t .deep, t .near))
+    (finding-number image map table (pointAt (wordCount image) depth address))
+
 pub verdict-told : (image map table : List ℕ) → Told (wordCount image) (verdictOf image map table)
-unfolding verdictOf
-verdict-told image map table =
-    let i = firstFinding image map table 0 (depths * wordCount image) in
-    pick-cases (Told (wordCount image)) (ltb i (depths * wordCount image))
-    (λ t.
-    let below : i < depths * wordCount image = ltb-true i (depths * wordCount image) t in
-    let some : 0 < wordCount image = omega arith in
-    ⊎-elim (λ z. absurd (first-found image map table 0 (depths * wordCount image) (omega arith) z))
-    (λ n. (n .0, n .1, div-lt-iff-lt-mul some .1 below, mod-lt i some)) (finding-number image map table i))
-    (λ _. tt)
+verdict-told image map table = told image map table (verdictOf image map table) (verdict-tells image map table)
 
 -- an answer's numbers: a refusal can be told from a finding, and neither is 0
 abbrev pub Ranged : AdmitAnswer → Type 0

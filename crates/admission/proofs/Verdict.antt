@@ -1,240 +1,130 @@
--- The answer: the lowest cell with a finding, as the loop over the cells keeps it. Assumes nothing.
-use mathlib.Core.Path.{_≡_, refl, sym, _∙_, ap, ap₂, subst, subst⁻¹}
+-- The answer tells the lowest finding; the loop over the cells keeps it. Assumes nothing.
+use mathlib.Core.Path.{_≡_, refl, sym, _∙_, ap, subst}
 use mathlib.Core.Logic.{_≢_}
-use mathlib.Core.Bool.{Bool, true, false}
+use mathlib.Core.Bool.{true}
 use mathlib.Core.List.{List}
-use Prim.Native.Nat.{ℕ, zero, suc, _+_, _-_, _*_, _/_, _%_, _≤_, _<_}
+use Prim.Native.Nat.{ℕ, suc, _+_, _*_, _/_, _%_, _≤_, _<_}
 use native.Mathlib.Omega.{arith}
-use native.Mathlib.Nat.{div-add-mod'}
-use lib.Arith.{digits-lt, digits-div, digits-mod}
+use native.Mathlib.Nat.{div-add-mod', mod-lt, div-lt-iff-lt-mul}
+use lib.Arith.{digits-lt}
 use lib.Dec.{ltb, eqb}
-use borrow.Author.Tests.{ltb-true, ltb-false, lt-ltb, le-ltb, eqb-true, eqb-false, eq-eqb, ne-eqb}
+use borrow.Author.Tests.{ltb-true, ltb-false, lt-ltb, eqb-true, eqb-false}
 use Rattle.choice.specs.Choice.{pick}
 use Rattle.choice.proofs.Laws.{pick-cases}
 use Rattle.machine.specs.Step.{wordCount}
 use Rattle.facts.specs.Record.{depths}
 use Rattle.transfer.specs.Passes.{pointAt}
 use Rattle.transfer.specs.Findings.{findingAt, firstFinding, NoFinding}
+use Rattle.transfer.proofs.First.{first}
 use Rattle.transfer.proofs.Membership.{same-or}
+use Rattle.admission.specs.declared.AdmitAnswer.{AdmitAnswer}
 use Rattle.admission.specs.declared.AdmitAnswer.the-variants.{Admitted, Found}
-use Rattle.admission.specs.Admission.{verdictAt, verdictOf}
+use Rattle.admission.specs.declared.Named.{Named}
+use Rattle.admission.specs.Admission.{verdictOf}
+use Rattle.admission.specs.Lowest.{Clear, Lowest}
+use Rattle.admission.proofs.Lowest.{Tells, tells-one}
+
+-- the finding of a depth and an address
+abbrev pub cellFinding : List ℕ → List ℕ → List ℕ → ℕ → ℕ → ℕ
+cellFinding image map table depth address = findingAt image map table (pointAt (wordCount image) depth address)
 
 module _ (image map table : List ℕ) where
-  -- ---- the clauses of the definition, in the form in which a loop uses them
+  -- ---- a place of the table, and its depth and address
 
-  pub first-end : (i e : ℕ) → e ≤ i → firstFinding image map table i (e - i) ≡ i
-  unfolding firstFinding
-  first-end i e h =
-      let none : e - i ≡ 0 = omega arith in
-      ap (firstFinding image map table i) none
+  lowest-at : (number depth address : ℕ) → depth < depths → address < wordCount image → cellFinding image map table depth address ≡ number → number ≢ 0
+      → ((k : ℕ) → k < pointAt (wordCount image) depth address → findingAt image map table k ≡ 0)
+      → Lowest (wordCount image) (cellFinding image map table) number depth address
+  lowest-at number depth address deep near here some lower =
+      record {
+        deep = deep;
+        near = near;
+        here = here;
+        some = some;
+        shallower = λ d a less inside. lower (pointAt (wordCount image) d a) (let row : pointAt (wordCount image) d a < depth * wordCount image = digits-lt less inside in omega arith);
+        before = λ a less. lower (pointAt (wordCount image) depth a) (omega arith);
+      }
 
-  first-rest : (i e : ℕ) → i < e → firstFinding image map table i (e - i)
-      ≡ pick (eqb (findingAt image map table i) 0) (firstFinding image map table (i + 1) (e - (i + 1))) i
-  unfolding firstFinding
-  first-rest i e h =
-      let more : e - i ≡ suc (e - (i + 1)) = omega arith in
-      let next : suc i ≡ i + 1 = omega arith in
-      ap (firstFinding image map table i) more
-      ∙ ap (λ (j : ℕ). pick (eqb (findingAt image map table i) 0) (firstFinding image map table j (e - (i + 1))) i) next
+  -- ---- what the answer tells
 
-  first-past : (i e : ℕ) → i < e → findingAt image map table i ≡ 0
-      → firstFinding image map table i (e - i) ≡ firstFinding image map table (i + 1) (e - (i + 1))
-  first-past i e h z =
-      first-rest i e h
-      ∙ ap (λ b. pick b (firstFinding image map table (i + 1) (e - (i + 1))) i) (eq-eqb (findingAt image map table i) 0 z)
-
-  first-here : (i e : ℕ) → i < e → (findingAt image map table i ≡ 0 → ⊥) → firstFinding image map table i (e - i) ≡ i
-  first-here i e h z =
-      first-rest i e h
-      ∙ ap (λ b. pick b (firstFinding image map table (i + 1) (e - (i + 1))) i) (ne-eqb (findingAt image map table i) 0 z)
-
-  -- the cell that is named has a finding
-  pub first-found : (i n : ℕ) → firstFinding image map table i n < i + n → findingAt image map table (firstFinding image map table i n) ≡ 0 → ⊥
-  unfolding firstFinding
-  first-found i zero l = absurd (omega arith)
-  first-found i (suc n) l =
-      pick-cases (λ (j : ℕ). j < i + suc n → findingAt image map table j ≡ 0 → ⊥) (eqb (findingAt image map table i) 0)
-      (λ e m. first-found (suc i) n (omega arith)) (λ e m. eqb-false (findingAt image map table i) 0 e) l
-
-  -- ---- the answer at a cell, and past the last
-
-  verdict-found : (depth pc : ℕ) → depth < depths → pc < wordCount image
-      → verdictAt image map table (pointAt (wordCount image) depth pc) ≡ Found (findingAt image map table (pointAt (wordCount image) depth pc)) depth pc
-  verdict-found depth pc d l =
-      ap (λ b. pick b (Found (findingAt image map table i) (i / wordCount image) (i % wordCount image)) Admitted) (lt-ltb i (depths * wordCount image) (digits-lt d l))
-      ∙ (λ k. Found (findingAt image map table i) (digits-div depth l k) (digits-mod depth l k))
+  pub verdict-tells : Tells (wordCount image) (cellFinding image map table) (verdictOf image map table)
+  unfolding verdictOf
+  verdict-tells =
+      pick-cases (Tells (wordCount image) (cellFinding image map table)) (ltb i n)
+      (λ e.
+      let below : i < n = ltb-true i n e in
+      let some : 0 < wordCount image = omega arith in
+      let place : pointAt (wordCount image) (i / wordCount image) (i % wordCount image) ≡ i = div-add-mod' i (wordCount image) in
+      lowest-at (findingAt image map table i) (i / wordCount image) (i % wordCount image) (div-lt-iff-lt-mul some .1 below) (mod-lt i some)
+      (ap (findingAt image map table) place) (first image map table 0 n .found (omega arith))
+      (λ k l. first image map table 0 n .lower k (omega arith) (omega arith)))
+      (λ e d a deep near.
+      let past : n ≤ i = ltb-false i n e in
+      let inside : pointAt (wordCount image) d a < n = digits-lt deep near in
+      first image map table 0 n .lower (pointAt (wordCount image) d a) (omega arith) (omega arith))
     where
-      i : ℕ
-      i = pointAt (wordCount image) depth pc
+      n : ℕ
+      n = depths * wordCount image
 
-  pub verdict-none : (i : ℕ) → depths * wordCount image ≤ i → verdictAt image map table i ≡ Admitted
-  verdict-none i h =
-      ap (λ b. pick b (Found (findingAt image map table i) (i / wordCount image) (i % wordCount image)) Admitted) (le-ltb i (depths * wordCount image) h)
+      i : ℕ
+      i = firstFinding image map table 0 n
+
+  -- an answer that tells what is so is the answer
+  pub verdict-only : (answer : AdmitAnswer) → Tells (wordCount image) (cellFinding image map table) answer → answer ≡ verdictOf image map table
+  verdict-only answer t = tells-one (wordCount image) (cellFinding image map table) answer (verdictOf image map table) t verdict-tells
+
+  -- ---- admitted exactly where no cell has a finding
+
+  pub clear-admitted : NoFinding image map table → verdictOf image map table ≡ Admitted
+  clear-admitted clear =
+      sym (verdict-only Admitted (λ d a deep near. clear .none _ (lt-ltb _ (depths * wordCount image) (digits-lt deep near))))
+
+  pub admitted-clear : verdictOf image map table ≡ Admitted → NoFinding image map table
+  admitted-clear h =
+      record {
+        none = λ k low.
+            let below : k < depths * wordCount image = ltb-true k _ low in
+            let some : 0 < wordCount image = omega arith in
+            let clear : Clear (wordCount image) (cellFinding image map table) = subst (Tells (wordCount image) (cellFinding image map table)) h verdict-tells in
+            ap (findingAt image map table) (sym (div-add-mod' k (wordCount image))) ∙ clear (k / wordCount image) (k % wordCount image) (div-lt-iff-lt-mul some .1 below) (mod-lt k some);
+      }
 
 -- ---- the loop
 
--- cell i is the next; number is the first finding so far, or 0, and then its depth and address
-pub record Telling (image map table : List ℕ) (i number depth address : ℕ) : Type 0 where
-  pub none : number ≡ 0
-      → firstFinding image map table 0 (depths * wordCount image) ≡ firstFinding image map table i (depths * wordCount image - i)
-  pub found : (number ≡ 0 → ⊥) → verdictOf image map table ≡ Found number depth address
+-- cell i is the next: nothing is named and no cell before it has a finding, or the lowest one is named
+pub record Telling (image map table : List ℕ) (i : ℕ) (named : Named) : Type 0 where
+  pub none : named .number ≡ 0 → (k : ℕ) → k < i → findingAt image map table k ≡ 0
+  pub found : named .number ≢ 0 → Lowest (wordCount image) (cellFinding image map table) (named .number) (named .depth) (named .address)
 
 module _ (image map table : List ℕ) where
-  pub telling-begins : (depth address : ℕ) → Telling image map table 0 0 depth address
-  telling-begins depth address =
-      let all : depths * wordCount image ≡ depths * wordCount image - 0 = omega arith in
-      record { none = λ z. ap (firstFinding image map table 0) all; found = λ z. absurd (z refl) }
+  pub telling-begins : (named : Named) → named .number ≡ 0 → Telling image map table 0 named
+  telling-begins named z = record { none = λ _ k l. absurd (omega arith); found = λ some. absurd (some z) }
 
-  -- a finding is kept
-  pub telling-keeps : (i j number depth address : ℕ) → (number ≡ 0 → ⊥) → Telling image map table i number depth address
-      → Telling image map table j number depth address
-  telling-keeps i j number depth address z t = record { none = λ e. absurd (z e); found = t .found }
-
-  -- none before cell (depth, pc): what is found there
-  pub telling-next : (number before after depth pc f : ℕ) → depth < depths → pc < wordCount image → number ≡ 0
-      → f ≡ findingAt image map table (pointAt (wordCount image) depth pc)
-      → Telling image map table (pointAt (wordCount image) depth pc) number before after
-      → Telling image map table (pointAt (wordCount image) depth pc + 1) f depth pc
-  unfolding verdictOf
-  telling-next number before after depth pc f d l z e t =
+  -- what is found at cell (depth, address) is named where nothing was
+  pub telling-next : (named found : Named) → found .depth < depths → found .address < wordCount image
+      → found .number ≡ cellFinding image map table (found .depth) (found .address)
+      → Telling image map table (pointAt (wordCount image) (found .depth) (found .address)) named
+      → Telling image map table (pointAt (wordCount image) (found .depth) (found .address) + 1) (pick (eqb (named .number) 0) found named)
+  telling-next named found deep near e t =
+      pick-cases (Telling image map table (i + 1)) (eqb (named .number) 0)
+      (λ z.
+      let none = t .none (eqb-true (named .number) 0 z) in
       record {
-        none = λ q. t .none z ∙ first-past image map table i n low (sym e ∙ q);
-        found = λ q.
-            ap (verdictAt image map table) (t .none z ∙ first-here image map table i n low (λ w. q (e ∙ w)))
-            ∙ verdict-found image map table depth pc d l ∙ ap (λ (x : ℕ). Found x depth pc) (sym e);
-      }
+        none = λ q k l. same-or k i (λ at. ap (findingAt image map table) at ∙ sym e ∙ q) (λ other. none k (omega arith));
+        found = λ some. lowest-at image map table (found .number) (found .depth) (found .address) deep near (sym e) some none;
+      })
+      (λ z. record { none = λ q. absurd (eqb-false (named .number) 0 z q); found = t .found })
     where
       i : ℕ
-      i = pointAt (wordCount image) depth pc
-
-      n : ℕ
-      n = depths * wordCount image
-
-      low : i < n
-      low = digits-lt d l
+      i = pointAt (wordCount image) (found .depth) (found .address)
 
   -- past the last cell
-  pub telling-ends : (i number depth address : ℕ) → depths * wordCount image ≤ i → number ≡ 0
-      → Telling image map table i number depth address → verdictOf image map table ≡ Admitted
-  unfolding verdictOf
-  telling-ends i number depth address h z t =
-      ap (verdictAt image map table) (t .none z ∙ first-end image map table i (depths * wordCount image) h) ∙ verdict-none image map table i h
+  module _ (i : ℕ) (named : Named) (past : depths * wordCount image ≤ i) (t : Telling image map table i named) where
+    pub telling-admitted : named .number ≡ 0 → Admitted ≡ verdictOf image map table
+    telling-admitted z =
+        verdict-only image map table Admitted
+        (λ d a deep near.
+        let inside : pointAt (wordCount image) d a < depths * wordCount image = digits-lt deep near in
+        t .none z (pointAt (wordCount image) d a) (omega arith))
 
--- ---- admitted exactly where no cell has a finding
-
-module _ (image map table : List ℕ) where
-  first-clear : (i n : ℕ) → i + n ≤ firstFinding image map table i n → (k : ℕ) → i ≤ k → k < i + n → findingAt image map table k ≡ 0
-  unfolding firstFinding
-  first-clear i zero h k low high = absurd (omega arith)
-  first-clear i (suc n) h k low high =
-      go (eqb (findingAt image map table i) 0) refl h (λ l q. first-clear (suc i) n l k (omega arith) (omega arith))
-    where
-      later : ℕ
-      later = firstFinding image map table (suc i) n
-
-      go : (b : Bool) → eqb (findingAt image map table i) 0 ≡ b → i + suc n ≤ pick b later i
-          → (suc i + n ≤ later → k ≢ i → findingAt image map table k ≡ 0) → findingAt image map table k ≡ 0
-      go true e l rest =
-          same-or k i (λ q. ap (findingAt image map table) q ∙ eqb-true (findingAt image map table i) 0 e)
-          (λ q. rest (omega arith) q)
-      go false e l rest = absurd (omega arith)
-
-  first-none : (i n : ℕ) → ((k : ℕ) → i ≤ k → k < i + n → findingAt image map table k ≡ 0) → firstFinding image map table i n ≡ i + n
-  unfolding firstFinding
-  first-none i zero h = omega arith
-  first-none i (suc n) h =
-      rw (eq-eqb (findingAt image map table i) 0 (h i (omega arith) (omega arith)))
-      (let rest = first-none (suc i) n (λ k low high. h k (omega arith) (omega arith)) in omega arith)
-
-  pub clear-admitted : NoFinding image map table → verdictOf image map table ≡ Admitted
-  unfolding verdictOf
-  clear-admitted clear =
-      let all = first-none 0 (depths * wordCount image) (λ k low high. clear .none k (lt-ltb k (depths * wordCount image) (omega arith))) in
-      verdict-none image map table (firstFinding image map table 0 (depths * wordCount image)) (omega arith)
-
-  pub admitted-clear : verdictOf image map table ≡ Admitted → NoFinding image map table
-  unfolding verdictOf
-  admitted-clear h =
-      record { none = λ k low. first-clear 0 n (omega (arith, ltb-false first n past)) k (omega arith) (omega (arith, ltb-true k n low)) }
-    where
-      n : ℕ
-      n = depths * wordCount image
-
-      first : ℕ
-      first = firstFinding image map table 0 n
-
-      go : (b : Bool) → pick b (Found (findingAt image map table first) (first / wordCount image) (first % wordCount image)) Admitted ≡ Admitted → b ≡ false
-      go true e = cc
-      go false e = refl
-
-      past : ltb first n ≡ false
-      past = go (ltb first n) h
-
--- ---- found: the cell told has that finding, and no lower cell has one
-
-pub record Lowest (image map table : List ℕ) (number depth address : ℕ) : Type 0 where
-  pub inside : pointAt (wordCount image) depth address < depths * wordCount image
-  pub here : findingAt image map table (pointAt (wordCount image) depth address) ≡ number
-  pub some : number ≢ 0
-  pub lower : (k : ℕ) → k < pointAt (wordCount image) depth address → findingAt image map table k ≡ 0
-
-module _ (image map table : List ℕ) where
-  first-some : (i n : ℕ) → firstFinding image map table i n < i + n → findingAt image map table (firstFinding image map table i n) ≢ 0
-  unfolding firstFinding
-  first-some i zero h = absurd (omega arith)
-  first-some i (suc n) h = go (eqb (findingAt image map table i) 0) refl h (λ l. first-some (suc i) n l)
-    where
-      later : ℕ
-      later = firstFinding image map table (suc i) n
-
-      go : (b : Bool) → eqb (findingAt image map table i) 0 ≡ b → pick b later i < i + suc n
-          → (later < suc i + n → findingAt image map table later ≢ 0) → findingAt image map table (pick b later i) ≢ 0
-      go true e l rest = rest (omega arith)
-      go false e l rest = eqb-false (findingAt image map table i) 0 e
-
-  first-lower : (i n k : ℕ) → i ≤ k → k < firstFinding image map table i n → findingAt image map table k ≡ 0
-  unfolding firstFinding
-  first-lower i zero k low high = absurd (omega arith)
-  first-lower i (suc n) k low high = go (eqb (findingAt image map table i) 0) refl high (λ l m. first-lower (suc i) n k l m)
-    where
-      later : ℕ
-      later = firstFinding image map table (suc i) n
-
-      go : (b : Bool) → eqb (findingAt image map table i) 0 ≡ b → k < pick b later i
-          → (suc i ≤ k → k < later → findingAt image map table k ≡ 0) → findingAt image map table k ≡ 0
-      go true e l rest =
-          same-or k i (λ q. ap (findingAt image map table) q ∙ eqb-true (findingAt image map table i) 0 e)
-          (λ q. rest (omega arith) l)
-      go false e l rest = absurd (omega arith)
-
-  pub found-lowest : (number depth address : ℕ) → verdictOf image map table ≡ Found number depth address
-      → Lowest image map table number depth address
-  unfolding verdictOf
-  found-lowest number depth address h = go (ltb first n) refl h
-    where
-      n : ℕ
-      n = depths * wordCount image
-
-      first : ℕ
-      first = firstFinding image map table 0 n
-
-      lowest : first < n → findingAt image map table first ≡ number → first ≡ pointAt (wordCount image) depth address
-          → Lowest image map table number depth address
-      lowest l en ei =
-          let some : findingAt image map table first ≢ 0 = first-some 0 n (omega arith) in
-          record {
-            inside = subst (λ (i : ℕ). i < n) ei l;
-            here = ap (findingAt image map table) (sym ei) ∙ en;
-            some = λ z. some (en ∙ z);
-            lower = λ k m. first-lower 0 n k (omega arith) (subst⁻¹ (λ (i : ℕ). k < i) ei m);
-          }
-
-      go : (b : Bool) → ltb first n ≡ b
-          → pick b (Found (findingAt image map table first) (first / wordCount image) (first % wordCount image)) Admitted ≡ Found number depth address
-          → Lowest image map table number depth address
-      go true e f =
-          let en : findingAt image map table first ≡ number = cc in
-          let ed : first / wordCount image ≡ depth = cc in
-          let ea : first % wordCount image ≡ address = cc in
-          lowest (ltb-true first n e) en (sym (div-add-mod' first (wordCount image)) ∙ ap₂ (pointAt (wordCount image)) ed ea)
-      go false e f = absurd (let z : _≡_ {A = ℕ} 0 1 = cc in omega arith)
+    pub telling-found : named .number ≢ 0 → Found (named .number) (named .depth) (named .address) ≡ verdictOf image map table
+    telling-found some = verdict-only image map table (Found (named .number) (named .depth) (named .address)) (t .found some)

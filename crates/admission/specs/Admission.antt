@@ -25,7 +25,8 @@ withFindings image map table marked i (suc n) =
 unfoldable pub filledTable : List ℕ → List ℕ → List ℕ
 filledTable image map = withFindings image map (leastTable image) (leastTable image) 0 (depths * wordCount image)
 
--- "With no finding the program is admitted; else the answer is one finding with its depth and address": the lowest
+-- "With no finding the program is admitted; else the answer is one finding with its depth and address": the first in the
+-- table's order, as 2026-02 of document 02 asks. Lowest.antt says so of the table's bytes.
 abbrev pub verdictAt : List ℕ → List ℕ → List ℕ → ℕ → AdmitAnswer
 verdictAt image map table i =
     pick (ltb i (depths * wordCount image)) (Found (findingAt image map table i) (i / wordCount image) (i % wordCount image)) Admitted

@@ -1,7 +1,9 @@
 // Admission: a program is read before it runs. Fills the lent table of facts and answers.
 ghost use mathlib.Core.Path.{_≡_};
 ghost use Prim.Native.Nat.{_*_, _<_};
+ghost use lib.Dec.{eqb};
 ghost use lib.ListN.{length};
+ghost use Rattle.choice.specs.Choice.{pick};
 ghost use Rattle.map.specs.Map.{mapLength};
 ghost use Rattle.machine.specs.Step.{wordCount};
 ghost use Rattle.facts.specs.Record.{depths, recordOf, cellAt, putRecord};
@@ -41,37 +43,57 @@ fn mark_cell(image: &[u8], map: &[u8], table: &mut [u8], depth: usize, pc: usize
     wide(f)
 }
 
+// A finding and its cell; the number is 0 where there is none.
+struct Named {
+    number: usize,
+    depth: usize,
+    address: usize,
+}
+
+// What is named after one cell more, in the table's order: what was named before it stays.
+fn keep_lower(before: Named, found: Named) -> Named
+    ensures { λ r. ⌜ r ≡ pick (eqb (before .number) 0) found before ⌝ }
+{
+    if before.number == 0 {
+        return found;
+    }
+    before
+}
+
 // Writes the finding of every cell, and answers.
 fn mark(image: &[u8], map: &[u8], table: &mut [u8]) -> AdmitAnswer
     requires { ⌜ Held (now image) (now table) × (length (now map) ≡ mapLength) × (0 < wordCount (now image)) ⌝ }
     ensures { λ r. ⌜ (r ≡ verdictOf (now (image .entry)) (now (map .entry)) (now (table .entry))) × (now (table .exit) ≡ withFindings (now (image .entry)) (now (map .entry)) (now (table .entry)) (now (table .entry)) 0 (depths * wordCount (now (image .entry)))) ⌝ }
 {
     let words = image.len() / 2;
-    let mut number = 0;
-    let mut at_depth = 0;
-    let mut at_address = 0;
+    let mut named = Named {
+        number: 0,
+        depth: 0,
+        address: 0,
+    };
     let mut depth = 0;
     let mut pc = 0;
     while depth < facts::DEPTHS {
-        let f = mark_cell(image, map, table, depth, pc);
-        if number == 0 {
-            number = f;
-            at_depth = depth;
-            at_address = pc;
-        }
+        let number = mark_cell(image, map, table, depth, pc);
+        let found = Named {
+            number,
+            depth,
+            address: pc,
+        };
+        named = keep_lower(named, found);
         pc += 1;
         if pc == words {
             pc = 0;
             depth += 1;
         }
     }
-    if number == 0 {
+    if named.number == 0 {
         return AdmitAnswer::Admitted;
     }
     AdmitAnswer::Found {
-        number,
-        depth: at_depth,
-        address: at_address,
+        number: named.number,
+        depth: named.depth,
+        address: named.address,
     }
 }
 

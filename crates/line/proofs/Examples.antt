@@ -12,7 +12,7 @@ use Rattle.field.specs.Field.{rotateRight}
 use Rattle.word.specs.Word.{decoded}
 use Rattle.map.specs.Map.{inSet, countBelow}
 use Rattle.machine.specs.Shape.{shapeOf, slotOf}
-use Rattle.machine.specs.Step.{resultOf}
+use Rattle.machine.specs.Step.{wordCount, resultOf}
 use Rattle.emulator.specs.Run.{imageFits}
 use Rattle.flow.specs.Flow.{joinAll, changesAll, sweepFrom, sweepChangesFrom, sweepChanges, sweeps}
 use Rattle.flow.proofs.Filling.{sweeps-rest}
@@ -21,8 +21,10 @@ use Rattle.facts.specs.Record.{holdsCell, joinCell, maskOf, recordOf, readCell,
 use Rattle.transfer.specs.Passes.{over, overDown, gives, wordsAt, some, wordPasses, allPasses, tableSpace, startTable, leastTable}
 use Rattle.transfer.specs.Findings.{allBelow, findingAt, firstFinding}
 use Rattle.transfer.proofs.TableLaws.{table-laws, start-begins}
-use Rattle.admission.specs.Admission.{verdictOf}
+use Rattle.admission.specs.Admission.{filledTable, verdictOf}
+use Rattle.admission.specs.Lowest.{findingIn, Lowest}
 use Rattle.line.specs.Line.{decimal, endText, answerLine, lineOf}
+use Rattle.line.proofs.Lowest.{line-names}
 
 -- "The image 0xC705 0xB723 0xE001 0xD721 0xE001"
 abbrev image : List ℕ
@@ -48,6 +50,10 @@ each-byte (x ∷ xs) h (suc k) = each-byte xs (and-second (ltb x 256) (all-bytes
 image-bytes : all-bytes image ≡ true
 unfolding all-bytes
 image-bytes = refl
+
+input-bytes : all-bytes (readable-map ++ image) ≡ true
+unfolding all-bytes
+input-bytes = refl
 
 -- after one sweep the table is the least one
 abbrev filled : List ℕ
@@ -83,3 +89,8 @@ prints-admitted = ap (line-of writable-map) least ∙ admitted-line
 pub prints-refused : lineOf (readable-map ++ image) ≡ 114 ∷ 101 ∷ 102 ∷ 117 ∷ 115 ∷ 101 ∷ 100 ∷ 32 ∷ 50 ∷ 52 ∷ 32 ∷ 100 ∷ 101 ∷ 112 ∷ 116 ∷ 104 ∷ 32 ∷ 48 ∷ 32 ∷ 97 ∷ 100 ∷ 100 ∷ 114 ∷ 101 ∷ 115 ∷ 115 ∷ 32 ∷ 51 ∷ 10 ∷ []
 unfolding lineOf imageFits
 prints-refused = ap (line-of readable-map) least ∙ refused-line
+
+-- so that is the lowest finding in the table that admission fills
+pub refused-lowest : Lowest (wordCount image) (findingIn image (filledTable image readable-map)) 24 0 3
+unfolding decimal
+refused-lowest = line-names (readable-map ++ image) (each-byte (readable-map ++ image) input-bytes) 24 0 3 .0 prints-refused .1

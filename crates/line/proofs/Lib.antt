@@ -1,4 +1,5 @@
 pub mod Writing
 pub mod Answers
 pub mod Input
+pub mod Lowest
 pub mod Examples

@@ -185,6 +185,9 @@ answer-apart (Found number depth address) r =
 admitted-in : (n : ℕ) → numberIn n ≡ 0 → admitAnswerIn n ≡ Admitted
 admitted-in n z = rw (eq-eqb (numberIn n) 0 z)
 
+pub found-in : (n : ℕ) → 21 ≤ numberIn n → admitAnswerIn n ≡ Found (numberIn n) (bitsFrom 8 8 n) (bitsFrom 16 16 n)
+found-in n h = rw (ne-eqb (numberIn n) 0 (λ z. omega arith), no-refusal (numberIn n) (inr h))
+
 module _ (image map table : List ℕ) where
   pub admit-apart : admitAnswerIn (admitNumber (admitResult image map table .answer)) ≡ admitResult image map table .answer
   admit-apart = answer-apart (admitResult image map table .answer) (answer-ranged image map table)

@@ -1,6 +1,6 @@
--- Demand 3 from the moment when riptide_admit's number is 0. Assumes nothing.
+-- The finding that riptide_admit's number names, and demand 3 from the moment when that number is 0. Assumes nothing.
 use mathlib.Core.List.{List}
-use mathlib.Core.Path.{_≡_, ap, _∙_, subst⁻¹}
+use mathlib.Core.Path.{_≡_, sym, ap, _∙_, subst⁻¹}
 use Prim.Native.Nat.{ℕ, _*_, _^_, _<_}
 use native.Mathlib.Nat.{mod-eq-of-lt}
 use native.Mathlib.Omega.{arith}
@@ -9,11 +9,16 @@ use borrow.Author.Tests.{eq-eqb}
 use Rattle.state.specs.State.{stateLength, resetBytes, resetNumberOf, resetState}
 use Rattle.emulator.specs.Run.{pairCount}
 use Rattle.admission.specs.Admission.{admitResult}
+use Rattle.admission.proofs.OneAnswer.{found-lowest}
 use Rattle.guarantee.specs.Demand.{Job, Executes, Flawless, finished, executes, turnedAway}
 use Rattle.guarantee.proofs.Admitted.{admitted-demand}
 use Rattle.riptide.specs.Numbers.{runNumber}
-use Rattle.riptide.specs.Calls.{Countable, noJob, fewPairs, runGives, Calls, noMore, gavePairs, gaveRefusal, AdmittedCalls}
-use Rattle.riptide.proofs.Apart.{admit-low}
+use Rattle.riptide.specs.Calls.{admitGives, NumberNames, Countable, noJob, fewPairs, runGives, Calls, noMore, gavePairs, gaveRefusal, AdmittedCalls}
+use Rattle.riptide.proofs.Apart.{found-in, admit-apart, admit-low}
+
+pub number-names : (image map table : List ℕ) → NumberNames image map table
+number-names image map table bytes finding =
+    found-lowest image map table bytes (sym (admit-apart image map table) ∙ found-in (admitGives image map table) finding)
 
 module _ {image map table : List ℕ} where
   gives-pairs : {state : List ℕ} {job : Job} → pairCount (job .recording) < 2 ^ 56 → Executes image map table state job

@@ -1,13 +1,15 @@
--- Demand 3 in the numbers that C and Rust see: what holds from the moment when riptide_admit gave the number 0.
+-- What the numbers that C and Rust see say: which finding is named, and demand 3 from the moment when riptide_admit gave 0.
 use mathlib.Core.Path.{_≡_}
 use mathlib.Core.List.{List, [], _∷_}
-use Prim.Native.Nat.{ℕ, _*_, _^_, _<_}
+use Prim.Native.Nat.{ℕ, _*_, _^_, _≤_, _<_}
 use lib.ListN.{length}
 use Rattle.state.specs.State.{stateLength, resetNumberOf, resetState}
+use Rattle.machine.specs.Step.{wordCount}
 use Rattle.emulator.specs.Run.{pairCount, runResult}
 use Rattle.admission.specs.Admission.{admitResult}
+use Rattle.admission.specs.Lowest.{findingIn, Lowest}
 use Rattle.guarantee.specs.Demand.{Bytes, Job, Fault, Flawless}
-use Rattle.riptide.specs.Numbers.{admitNumber, runNumber, numberIn}
+use Rattle.riptide.specs.Numbers.{admitNumber, runNumber, bitsFrom, numberIn}
 
 -- What riptide_admit and riptide_run give: their contracts equate their results with these.
 abbrev pub admitGives : List ℕ → List ℕ → List ℕ → ℕ
@@ -15,6 +17,15 @@ admitGives image map table = admitNumber (admitResult image map table .answer)
 
 abbrev pub runGives : List ℕ → List ℕ → List ℕ → Job → ℕ
 runGives image map state job = runNumber (runResult image map state (job .recording) (job .trace) .answer)
+
+-- Which finding riptide_admit names (request 2026-02 of document 02). Where its number is a finding, RIPTIDE_NUMBER stands in
+-- the table at RIPTIDE_DEPTH and RIPTIDE_ADDRESS, and no cell of lower depth, nor of the same depth and lower address, has
+-- a finding.
+abbrev pub NumberNames : List ℕ → List ℕ → List ℕ → Type 0
+NumberNames image map table =
+    Bytes image → 21 ≤ numberIn (admitGives image map table)
+    → Lowest (wordCount image) (findingIn image (admitResult image map table .table)) (numberIn (admitGives image map table))
+    (bitsFrom 8 8 (admitGives image map table)) (bitsFrom 16 16 (admitGives image map table))
 
 -- Recordings of fewer than 2^56 pairs, whose count fits its place; no memory holds a longer one.
 pub data Countable : List Job → Type 0 where

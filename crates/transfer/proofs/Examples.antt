@@ -66,12 +66,14 @@ examples =
     after-sweeps 1 (0x17 ∷ 0x07 ∷ 0xE0 ∷ 0x01 ∷ []) open-map ∷
     -- 29: XEC of itself; 25: of the fourth word, which a field of one bit may give
     after-sweeps 0 (0x80 ∷ 0x00 ∷ 0xE0 ∷ 0x00 ∷ []) open-map ∷
-    after-sweeps 1 (0x97 ∷ 0x22 ∷ 0xE0 ∷ 0x00 ∷ 0x00 ∷ 0x00 ∷ 0xCF ∷ 0x0A ∷ []) (set (only 0 1) 65 2) ∷ []
+    after-sweeps 1 (0x97 ∷ 0x22 ∷ 0xE0 ∷ 0x00 ∷ 0x00 ∷ 0x00 ∷ 0xCF ∷ 0x0A ∷ []) (set (only 0 1) 65 2) ∷
+    -- 28 at depth 1, address 1, in a routine, and 22 at depth 0, address 4, where it returns: the lower depth (2026-02)
+    after-sweeps 1 (0xE0 ∷ 0x03 ∷ 0x17 ∷ 0x07 ∷ 0xAF ∷ 0x00 ∷ 0xA7 ∷ 0x01 ∷ 0x00 ∷ 0x08 ∷ []) open-map ∷ []
 
 told-examples : examples ≡
     (0 ∷ 9 ∷ 0 ∷ []) ∷ (0 ∷ 45 ∷ 0 ∷ []) ∷ (0 ∷ 3 ∷ 24 ∷ []) ∷
     (0 ∷ 0 ∷ 21 ∷ []) ∷ (0 ∷ 0 ∷ 21 ∷ []) ∷ (0 ∷ 18 ∷ 0 ∷ []) ∷ (0 ∷ 0 ∷ 21 ∷ []) ∷
     (0 ∷ 0 ∷ 22 ∷ []) ∷ (0 ∷ 1 ∷ 23 ∷ []) ∷ (0 ∷ 0 ∷ 25 ∷ []) ∷ (0 ∷ 16 ∷ 26 ∷ []) ∷
-    (0 ∷ 0 ∷ 27 ∷ []) ∷ (0 ∷ 27 ∷ 0 ∷ []) ∷ (0 ∷ 0 ∷ 27 ∷ []) ∷ (0 ∷ 27 ∷ 0 ∷ []) ∷ (0 ∷ 0 ∷ 28 ∷ []) ∷ (0 ∷ 0 ∷ 29 ∷ []) ∷ (0 ∷ 0 ∷ 25 ∷ []) ∷ []
+    (0 ∷ 0 ∷ 27 ∷ []) ∷ (0 ∷ 27 ∷ 0 ∷ []) ∷ (0 ∷ 0 ∷ 27 ∷ []) ∷ (0 ∷ 27 ∷ 0 ∷ []) ∷ (0 ∷ 0 ∷ 28 ∷ []) ∷ (0 ∷ 0 ∷ 29 ∷ []) ∷ (0 ∷ 0 ∷ 25 ∷ []) ∷ (0 ∷ 4 ∷ 22 ∷ []) ∷ []
 unfolding examples after-sweeps told open-map only panel firstFinding inSet allBelow findingAt rotateRight decoded shapeOf slotOf resultOf joinAll changesAll sweepFrom sweepChangesFrom sweeps allKnowNoMore joinFacts resultFact carryFact withCarryFact holdsCell joinCell maskOf recordOf readCell cellAt putRecord over overDown gives wordsAt some wordPasses allPasses
 told-examples = refl

@@ -5,3 +5,4 @@ pub mod Wider
 pub mod TableLaws
 pub mod LeastTable
 pub mod Numbers
+pub mod First

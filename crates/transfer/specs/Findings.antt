@@ -85,7 +85,9 @@ findingAt image map table i =
     (firstNo (cellQuestions image map table (i / wordCount image) (i % wordCount image) (cellAt table i .facts)))
     0
 
--- the lowest cell with a finding among n cells from i on; the number of cells where there is none
+-- The first cell with a finding among n cells from i on; i + n where there is none. Cells stand in the table by depth, and at
+-- one depth by address, so the first is "the finding of lowest depth, and among those the one of lowest address" (document
+-- 02, 2026-02).
 unfoldable pub firstFinding : List ℕ → List ℕ → List ℕ → ℕ → ℕ → ℕ
 firstFinding image map table i zero = i
 firstFinding image map table i (suc n) = pick (eqb (findingAt image map table i) 0) (firstFinding image map table (suc i) n) i

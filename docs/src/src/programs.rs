@@ -27,6 +27,12 @@ pub fn map_of(sets: [&[u8]; 4]) -> [u8; 128] {
     map
 }
 
+/// A map that withholds what faulty words ask for: left 0 may be read and
+/// written and left 1 written, right 0 read and right 1 both.
+pub fn sparse_map() -> [u8; 128] {
+    map_of([&[0], &[0, 1], &[0, 1], &[1]])
+}
+
 /// The program for timing. It is admitted with `timing_map`, rotates
 /// registers and bank fields, and merges into both latches:
 ///
@@ -336,6 +342,53 @@ pub fn nested_words() -> Vec<u16> {
             Ret { i: 0 },
         ]),
     )
+}
+
+/// Findings at three depths under `sparse_map`, the lowest address at the
+/// greatest of them; the one at depth 0, address 8 is named:
+///
+/// ```text
+///  0 JMP 7              4 CALL 1             7 CALL 4
+///  1 XMIT 9, IVL   25   5 MOVE LIV7, R1 23   8 XMIT 1, RIV7, 3  24
+///  2 MOVE LIV7, R1 23   6 RET                9 XMIT 7, IVR      25
+///  3 RET                                    10 JMP 10
+/// ```
+pub fn levels_words() -> Vec<u16> {
+    assemble(&[
+        Jmp { a: 7 },
+        XmitRegister { d: 0o07, i: 9 },
+        Move { s: 0o27, rl: 0, d: 1 },
+        Ret { i: 0 },
+        Call { i: 1 },
+        Move { s: 0o27, rl: 0, d: 1 },
+        Ret { i: 0 },
+        Call { i: 4 },
+        XmitBank { d: 0o37, l: 3, i: 1 },
+        XmitRegister { d: 0o17, i: 7 },
+        Jmp { a: 10 },
+    ])
+}
+
+/// The lowest finding under `sparse_map` is that of the XEC at 3, for the word
+/// at 8, which no cell has as its own; a lower address has one at depth 1:
+///
+/// ```text
+///  0 JMP 3                 3 XEC 7 (LIV7, 1)   6 JMP 6
+///  1 XMIT 1, RIV7, 3  24   4 CALL 1            7 MOVE R1, R2   executed by 3
+///  2 RET                   5 MOVE LIV7, R1 28  8 XMIT 9, IVL   executed: 25
+/// ```
+pub fn levels_xec_words() -> Vec<u16> {
+    assemble(&[
+        Jmp { a: 3 },
+        XmitBank { d: 0o37, l: 3, i: 1 },
+        Ret { i: 0 },
+        XecBank { s: 0o27, l: 1, i: 7 },
+        Call { i: 1 },
+        Move { s: 0o27, rl: 0, d: 1 },
+        Jmp { a: 6 },
+        Move { s: 1, rl: 0, d: 2 },
+        XmitRegister { d: 0o07, i: 9 },
+    ])
 }
 
 /// A well-formed state with random contents, not stopped.

@@ -355,10 +355,10 @@ pub fn admit(image: &[u8], map: &[u8], table: &mut [u8]) -> Admission {
     }
 }
 
-/// Writes every record with its finding; the verdict names the first finding.
+/// Writes every record with its finding.
 fn write_table(analysis: &Analysis, bytes: &mut [u8]) -> Verdict {
-    let mut verdict = Verdict::Admitted;
     let words = analysis.table.words;
+    let mut findings = Vec::new();
     for (index, out) in bytes.chunks_mut(RECORD_BYTES).enumerate() {
         let (depth, address) = (index / words, index % words);
         let Some(facts) = analysis.table.cell(depth, address) else {
@@ -367,11 +367,22 @@ fn write_table(analysis: &Analysis, bytes: &mut [u8]) -> Verdict {
         };
         let number = analysis.finding(depth, address, facts);
         out.copy_from_slice(&record(facts, number));
-        if number != 0 && verdict == Verdict::Admitted {
-            verdict = Verdict::Finding { number, depth, address };
+        if number != 0 {
+            findings.push((depth, address, number));
         }
     }
-    verdict
+    named(&findings)
+}
+
+/// Admitted without a finding; else the one of lowest depth is named, and
+/// among those of that depth the one of lowest address (2026-02).
+fn named(findings: &[(usize, usize, u8)]) -> Verdict {
+    let Some(lowest) = findings.iter().map(|&(depth, ..)| depth).min() else {
+        return Verdict::Admitted;
+    };
+    let there = findings.iter().filter(|&&(depth, ..)| depth == lowest);
+    let &(depth, address, number) = there.min_by_key(|&&(_, address, _)| address).expect("some");
+    Verdict::Finding { number, depth, address }
 }
 
 /// Whether a state lies within the facts of its cell.

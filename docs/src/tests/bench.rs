@@ -56,9 +56,14 @@ fn stored_inputs() {
         ("samples/indicator.bin", "admitted words 4 left 1 0 right 0 1"),
         ("samples/routine.bin", "admitted words 6 left 1 0 right 0 1"),
         ("samples/odometer.bin", "refused 28 depth 0 address 3"),
+        ("samples/levels.bin", "refused 25 depth 0 address 6"),
     ] {
         assert_eq!(line(&file(sample)), format!("{text}\n"));
         let said = String::from_utf8(file("samples/README.md")).expect("text");
         assert!(said.contains(&format!("The bench prints `{text}`")), "{sample}");
     }
+    // The word at 6 mended.
+    let mut levels = file("samples/levels.bin");
+    levels[128 + 13] = 9;
+    assert_eq!(line(&levels), "refused 24 depth 1 address 1\n");
 }

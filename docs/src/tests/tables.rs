@@ -21,17 +21,23 @@ fn cell(table: &[u8], depth: usize, address: usize) -> &[u8] {
     &table[16 * (depth * words + address)..][..16]
 }
 
-/// Sweeps and rounds give one table, findings included, and the verdict is
-/// its first finding.
+/// Depth, address and number of each finding that stands in a table.
+fn findings(table: &[u8]) -> Vec<(usize, usize, u8)> {
+    let words = table.len() / 144;
+    let cells = (0..9).flat_map(|depth| (0..words).map(move |address| (depth, address)));
+    let found = cells.map(|(depth, address)| (depth, address, cell(table, depth, address)[1]));
+    found.filter(|&(_, _, number)| number != 0).collect()
+}
+
+/// Sweeps and rounds give one table, findings included, and the verdict names
+/// the finding of lowest depth, and among those the one of lowest address.
 fn agree(words: &[u16], map: &[u8]) -> Verdict {
     let (answer, table) = admit_words(words, map);
     assert!(answer.sweeps <= 108 * words.len());
-    let first = (0..9 * words.len()).find(|index| table[16 * index + 1] != 0);
-    let expected = first.map_or(Verdict::Admitted, |index| Verdict::Finding {
-        number: table[16 * index + 1],
-        depth: index / words.len(),
-        address: index % words.len(),
-    });
+    let expected = match findings(&table).into_iter().min() {
+        None => Verdict::Admitted,
+        Some((depth, address, number)) => Verdict::Finding { number, depth, address },
+    };
     assert_eq!(answer.verdict, expected);
     assert!(table == table_bytes(words, map), "{words:04x?}");
     answer.verdict
@@ -106,7 +112,7 @@ fn each_finding_at_each_depth() {
         let write = XmitBank { d: 0o37, l: 3, i: 1 };
         let read = Move { s: 0o27, rl: 0, d: 1 };
         let far = XmitRegister { d: 0o07, i: 9 };
-        let map = map_of([&[0], &[0, 1], &[0, 1], &[1]]);
+        let map = sparse_map();
         assert_eq!(finding(&put(&[Jmp { a: 99 }]), &map), (21, depth, low));
         let mut invalid = put(&[read]);
         invalid[low] = 0x0008;
@@ -127,6 +133,22 @@ fn each_finding_at_each_depth() {
     }
     // Without a way back nothing returns: the RET is never reached.
     assert_eq!(finding(&assemble(&[Call { i: 0 }, Ret { i: 0 }]), &ALL), (26, 8, 0));
+}
+
+#[test]
+fn depth_before_address() {
+    let map = sparse_map();
+    let (answer, table) = admit_words(&levels_words(), &map);
+    let all = [(0, 8, 24), (0, 9, 25), (1, 5, 23), (2, 1, 25), (2, 2, 23)];
+    assert_eq!(findings(&table), all);
+    assert_eq!(answer.verdict, Verdict::Finding { number: 24, depth: 0, address: 8 });
+    let (answer, table) = admit_words(&levels_xec_words(), &map);
+    assert_eq!(findings(&table), [(0, 3, 25), (0, 5, 28), (1, 1, 24)]);
+    assert_eq!(answer.verdict, Verdict::Finding { number: 25, depth: 0, address: 3 });
+    // What is mended goes, and the next one is named.
+    let mut words = levels_xec_words();
+    words[8] = words[7];
+    assert_eq!(finding(&words, &map), (24, 1, 1));
 }
 
 #[test]

@@ -89,10 +89,19 @@ fn told_verdict(answer: AdmitAnswer) -> Verdict {
     }
 }
 
+/// Depth, address and number of each finding that stands in a table.
+fn findings(table: &[u8]) -> Vec<(u8, u16, u8)> {
+    let words = table.len() / 144;
+    let cells = (0..9).flat_map(|depth| (0..words).map(move |address| (depth, address)));
+    let found = cells.map(|(depth, address)| (depth as u8, address as u16, table[16 * (depth * words + address) + 1]));
+    found.filter(|&(_, _, number)| number != 0).collect()
+}
+
 #[test]
 fn admission_equal_to_the_reference() {
     let mut random = Random(0xad417);
     let (mut admitted, mut found, mut refused) = (0, [0; 30], 0);
+    let (mut lower_address, mut other_number) = (0, 0);
     let cases = cases() / 4;
     for case in 0..cases {
         let mut image = match random.below(8) {
@@ -116,11 +125,23 @@ fn admission_equal_to_the_reference() {
         assert_eq!(table, table2, "table of case {case}");
         match ours {
             AdmitAnswer::Refused(_) => refused += 1,
-            AdmitAnswer::Admitted => admitted += 1,
-            AdmitAnswer::Found { number, .. } => found[number as usize] += 1,
+            AdmitAnswer::Admitted => {
+                admitted += 1;
+                assert_eq!(findings(&table), [], "case {case}");
+            }
+            AdmitAnswer::Found { number, depth, address } => {
+                found[number as usize] += 1;
+                // The lowest depth, and among those the lowest address (2026-02).
+                let all = findings(&table);
+                assert_eq!(all.iter().min(), Some(&(depth, address, number)), "case {case}");
+                lower_address += usize::from(all.iter().any(|other| other.1 < address));
+                other_number += usize::from(all.iter().any(|other| other.2 != number));
+            }
         }
     }
     println!("{cases} cases, {admitted} admitted, {refused} refused, findings 21-29: {:?}", &found[21..]);
+    println!("a lower address had a finding in {lower_address}, a cell another number in {other_number}");
+    assert!(cases < 1000 || lower_address > 0 && other_number > 0);
 }
 
 /// A word's case as the library's opcode and fields, or 22.

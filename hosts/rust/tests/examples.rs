@@ -110,6 +110,10 @@ fn the_station_in_c() {
         station("samples/odometer.bin"),
         "refused 28 depth 0 address 3: an address or a CALL's page is not known\n"
     );
+    assert_eq!(
+        station("samples/levels.bin"),
+        "refused 25 depth 0 address 6: chooses an address that is not listed\n"
+    );
     let short = source("short.bin", &"\0".repeat(131));
     assert_eq!(
         station(short.to_str().expect("text")),

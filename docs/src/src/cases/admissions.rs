@@ -72,9 +72,8 @@ impl Case {
     }
 }
 
-/// A map that withholds what the faulty words below ask for.
-fn sparse_map() -> Bytes {
-    Bytes::Hex(map_of([&[0], &[0, 1], &[0, 1], &[1]]).to_vec())
+fn sparse() -> Bytes {
+    Bytes::Hex(sparse_map().to_vec())
 }
 
 /// Bodies of one or two words that give each finding, and its number.
@@ -99,7 +98,7 @@ fn faults() -> Vec<Case> {
         let end = assemble(&[if depth == 0 { Jmp { a: 0 } } else { Ret { i: 0 } }]);
         for (number, body) in faulty_bodies(body_at(depth)) {
             let words = nested(depth, &[body, end.clone()].concat());
-            cases.push(Case::new(&format!("fault{number}-depth{depth}"), &words, sparse_map()));
+            cases.push(Case::new(&format!("fault{number}-depth{depth}"), &words, sparse()));
         }
     }
     let ninth = nested(8, &assemble(&[Call { i: 0 }, Ret { i: 0 }]));
@@ -127,7 +126,7 @@ fn executed_faults() -> Vec<Case> {
             body.extend(assemble(&[xec, end, Move { s: 1, rl: 0, d: 2 }]));
             body.push(fault);
             let name = format!("executed{number}-depth{depth}");
-            cases.push(Case::new(&name, &nested(depth, &body), sparse_map()));
+            cases.push(Case::new(&name, &nested(depth, &body), sparse()));
         }
     }
     cases
@@ -167,6 +166,14 @@ fn return_bytes() -> Vec<Case> {
         Case::new("return-byte", &called, ALL_ONES),
         case("dispatch", &dispatch_words()),
         case("nested", &nested_words()),
+    ]
+}
+
+/// Findings at several depths and addresses (2026-02).
+fn lowest() -> Vec<Case> {
+    vec![
+        Case::new("lowest-levels", &levels_words(), sparse()),
+        Case::new("lowest-xec", &levels_xec_words(), sparse()),
     ]
 }
 
@@ -236,8 +243,8 @@ fn doors() -> Vec<Case> {
 
 /// All admissions.
 pub fn cases() -> Vec<Case> {
-    [named(), faults(), executed_faults(), random_cases(), large(), return_bytes(), doors()]
-        .concat()
+    let refused = [faults(), executed_faults(), lowest()].concat();
+    [named(), refused, random_cases(), large(), return_bytes(), doors()].concat()
 }
 
 pub fn entries() -> Vec<Entry> {

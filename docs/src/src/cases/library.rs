@@ -193,7 +193,8 @@ fn begins(name: &str, with: &[&str]) -> bool {
 
 /// Some of the admissions: each refusal, findings at depths 0 and 8, admitted.
 fn admitted() -> Vec<Entry> {
-    let some = ["door", "example", "timing", "fault26", "fault27", "executed", "call", "return"];
+    let some =
+        ["door", "example", "timing", "fault26", "fault27", "executed", "call", "return", "lowest"];
     let case = |case: admissions::Case| {
         let mut table = vec![FILLER; case.table_bytes];
         let verdict = admit(&case.image.expand(), &case.map.expand(), &mut table).verdict;
