@@ -124,8 +124,8 @@ uint64_t riptide_count_sets(const uint8_t *map, size_t map_length);
 uint64_t riptide_reset(uint8_t *state, size_t state_length);
 
 /* Reads a program before it runs, and fills the table of facts, whatever it held. RIPTIDE_NUMBER is 0: admitted, no cell
- * has a finding; 11 image, 12 map, 13 table: refused, nothing changed; 21-29: the finding of the lowest cell that has one,
- * at RIPTIDE_DEPTH and RIPTIDE_ADDRESS. */
+ * has a finding; 11 image, 12 map, 13 table: refused, nothing changed; 21-29: of all findings in the table the one of lowest
+ * depth, and among those the one of lowest address, at RIPTIDE_DEPTH and RIPTIDE_ADDRESS. */
 uint64_t riptide_admit(const uint8_t *image, size_t image_length, const uint8_t *map, size_t map_length, uint8_t *table,
                        size_t table_length);
 

@@ -1,5 +1,4 @@
--- The lowest finding, whatever gives the findings: there is one only, and what an answer tells of them leaves one answer.
--- Assumes nothing.
+-- The lowest finding, whatever gives the findings: there is one only, and so only one answer names it. Assumes nothing.
 use mathlib.Core.Path.{_≡_, refl, sym, _∙_, ap, subst, subst⁻¹}
 use mathlib.Core.Logic.{_≢_}
 use mathlib.Core.List.{List}
@@ -53,23 +52,23 @@ module _ {words : ℕ} {finding : ℕ → ℕ → ℕ} where
           let told : n ≡ m = sym (l .here) ∙ ap (finding d) near ∙ s .here in
           λ k. Found (told k) (deep k) (near k)
 
--- What an answer past the door tells of the findings.
-abbrev pub Tells : ℕ → (ℕ → ℕ → ℕ) → AdmitAnswer → Type 0
-Tells words finding (Refused number) = ⊥
-Tells words finding Admitted = Clear words finding
-Tells words finding (Found number depth address) = Lowest words finding number depth address
+-- an answer past the door: admitted where there is no finding, else the lowest is named
+abbrev pub Names : ℕ → (ℕ → ℕ → ℕ) → AdmitAnswer → Type 0
+Names words finding (Refused number) = ⊥
+Names words finding Admitted = Clear words finding
+Names words finding (Found number depth address) = Lowest words finding number depth address
 
-pub tells-one : (words : ℕ) (finding : ℕ → ℕ → ℕ) (a b : AdmitAnswer) → Tells words finding a → Tells words finding b → a ≡ b
-tells-one words finding (Refused n) b t u = absurd t
-tells-one words finding Admitted (Refused n) t u = absurd u
-tells-one words finding Admitted Admitted t u = refl
-tells-one words finding Admitted (Found n d a) t u = absurd (lowest-not-clear u t)
-tells-one words finding (Found n d a) (Refused m) t u = absurd u
-tells-one words finding (Found n d a) Admitted t u = absurd (lowest-not-clear t u)
-tells-one words finding (Found n d a) (Found m e b) t u = lowest-one t u
+pub names-one : (words : ℕ) (finding : ℕ → ℕ → ℕ) (a b : AdmitAnswer) → Names words finding a → Names words finding b → a ≡ b
+names-one words finding (Refused n) b t u = absurd t
+names-one words finding Admitted (Refused n) t u = absurd u
+names-one words finding Admitted Admitted t u = refl
+names-one words finding Admitted (Found n d a) t u = absurd (lowest-not-clear u t)
+names-one words finding (Found n d a) (Refused m) t u = absurd u
+names-one words finding (Found n d a) Admitted t u = absurd (lowest-not-clear t u)
+names-one words finding (Found n d a) (Found m e b) t u = lowest-one t u
 
-pub tells-same : (words : ℕ) (finding other : ℕ → ℕ → ℕ) (answer : AdmitAnswer) → ((d a : ℕ) → d < depths → a < words → other d a ≡ finding d a)
-    → Tells words finding answer → Tells words other answer
-tells-same words finding other (Refused n) same t = t
-tells-same words finding other Admitted same t = λ d a deep near. same d a deep near ∙ t d a deep near
-tells-same words finding other (Found n d a) same t = lowest-same t same
+pub names-same : (words : ℕ) (finding other : ℕ → ℕ → ℕ) (answer : AdmitAnswer) → ((d a : ℕ) → d < depths → a < words → other d a ≡ finding d a)
+    → Names words finding answer → Names words other answer
+names-same words finding other (Refused n) same t = t
+names-same words finding other Admitted same t = λ d a deep near. same d a deep near ∙ t d a deep near
+names-same words finding other (Found n d a) same t = lowest-same t same

@@ -59,7 +59,7 @@ pub record Marks (image map t₀ : List ℕ) (i : ℕ) (t : List ℕ) (named : N
   pub marking : Marking image map t₀ i t
   pub telling : Telling image map t₀ i named
 
-module _ (image map t₀ : List ℕ) (held : Held image t₀) where
+module _ {image map t₀ : List ℕ} (held : Held image t₀) where
   pub marks-begin : (named : Named) → named .number ≡ 0 → Marks image map t₀ (pointAt (wordCount image) 0 0) t₀ named
   marks-begin named z =
       let first : 0 ≡ pointAt (wordCount image) 0 0 = omega arith in

@@ -16,8 +16,8 @@ use Rattle.transfer.proofs.Numbers.{finding-number}
 use Rattle.admission.specs.declared.AdmitAnswer.{AdmitAnswer}
 use Rattle.admission.specs.declared.AdmitAnswer.the-variants.{Refused, Admitted, Found}
 use Rattle.admission.specs.Admission.{AdmitResult, verdictOf, admitResult}
-use Rattle.admission.proofs.Lowest.{Tells, lowest-some}
-use Rattle.admission.proofs.Verdict.{cellFinding, verdict-tells}
+use Rattle.admission.proofs.Lowest.{Names, lowest-some}
+use Rattle.admission.proofs.Verdict.{cellFinding, verdict-names}
 use Rattle.emulator.proofs.Door.{image-words}
 
 -- a verdict refuses nothing
@@ -26,7 +26,7 @@ Told words (Refused number) = ⊥
 Told words Admitted = Unit
 Told words (Found number depth address) = (21 ≤ number) × (number < 30) × (depth < depths) × (address < words)
 
-told : (image map table : List ℕ) (answer : AdmitAnswer) → Tells (wordCount image) (cellFinding image map table) answer → Told (wordCount image) answer
+told : (image map table : List ℕ) (answer : AdmitAnswer) → Names (wordCount image) (cellFinding image map table) answer → Told (wordCount image) answer
 told image map table (Refused number) t = t
 told image map table Admitted t = tt
 told image map table (Found number depth address) t =
@@ -34,7 +34,7 @@ told image map table (Found number depth address) t =
     (finding-number image map table (pointAt (wordCount image) depth address))
 
 pub verdict-told : (image map table : List ℕ) → Told (wordCount image) (verdictOf image map table)
-verdict-told image map table = told image map table (verdictOf image map table) (verdict-tells image map table)
+verdict-told image map table = told image map table (verdictOf image map table) (verdict-names image map table)
 
 -- an answer's numbers: a refusal can be told from a finding, and neither is 0
 abbrev pub Ranged : AdmitAnswer → Type 0

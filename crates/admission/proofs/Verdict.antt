@@ -1,4 +1,4 @@
--- The answer tells the lowest finding; the loop over the cells keeps it. Assumes nothing.
+-- The answer names the lowest finding, which the loop over the cells keeps. Assumes nothing.
 use mathlib.Core.Path.{_≡_, refl, sym, _∙_, ap, subst}
 use mathlib.Core.Logic.{_≢_}
 use mathlib.Core.Bool.{true}
@@ -22,7 +22,7 @@ use Rattle.admission.specs.declared.AdmitAnswer.the-variants.{Admitted, 
 use Rattle.admission.specs.declared.Named.{Named}
 use Rattle.admission.specs.Admission.{verdictOf}
 use Rattle.admission.specs.Lowest.{Clear, Lowest}
-use Rattle.admission.proofs.Lowest.{Tells, tells-one}
+use Rattle.admission.proofs.Lowest.{Names, names-one}
 
 -- the finding of a depth and an address
 abbrev pub cellFinding : List ℕ → List ℕ → List ℕ → ℕ → ℕ → ℕ
@@ -44,12 +44,12 @@ module _ (image map table : List ℕ) where
         before = λ a less. lower (pointAt (wordCount image) depth a) (omega arith);
       }
 
-  -- ---- what the answer tells
+  -- ---- what the answer names
 
-  pub verdict-tells : Tells (wordCount image) (cellFinding image map table) (verdictOf image map table)
+  pub verdict-names : Names (wordCount image) (cellFinding image map table) (verdictOf image map table)
   unfolding verdictOf
-  verdict-tells =
-      pick-cases (Tells (wordCount image) (cellFinding image map table)) (ltb i n)
+  verdict-names =
+      pick-cases (Names (wordCount image) (cellFinding image map table)) (ltb i n)
       (λ e.
       let below : i < n = ltb-true i n e in
       let some : 0 < wordCount image = omega arith in
@@ -68,9 +68,9 @@ module _ (image map table : List ℕ) where
       i : ℕ
       i = firstFinding image map table 0 n
 
-  -- an answer that tells what is so is the answer
-  pub verdict-only : (answer : AdmitAnswer) → Tells (wordCount image) (cellFinding image map table) answer → answer ≡ verdictOf image map table
-  verdict-only answer t = tells-one (wordCount image) (cellFinding image map table) answer (verdictOf image map table) t verdict-tells
+  -- no other answer does
+  pub verdict-only : (answer : AdmitAnswer) → Names (wordCount image) (cellFinding image map table) answer → answer ≡ verdictOf image map table
+  verdict-only answer t = names-one (wordCount image) (cellFinding image map table) answer (verdictOf image map table) t verdict-names
 
   -- ---- admitted exactly where no cell has a finding
 
@@ -84,7 +84,7 @@ module _ (image map table : List ℕ) where
         none = λ k low.
             let below : k < depths * wordCount image = ltb-true k _ low in
             let some : 0 < wordCount image = omega arith in
-            let clear : Clear (wordCount image) (cellFinding image map table) = subst (Tells (wordCount image) (cellFinding image map table)) h verdict-tells in
+            let clear : Clear (wordCount image) (cellFinding image map table) = subst (Names (wordCount image) (cellFinding image map table)) h verdict-names in
             ap (findingAt image map table) (sym (div-add-mod' k (wordCount image))) ∙ clear (k / wordCount image) (k % wordCount image) (div-lt-iff-lt-mul some .1 below) (mod-lt k some);
       }
 

@@ -12,7 +12,8 @@ ghost use Rattle.transfer.specs.Findings.{findingAt};
 ghost use Rattle.callers.specs.Callers.{Held};
 ghost use Rattle.admission.specs.Admission.{withFindings, verdictOf, resulting, admitResult};
 
-// What admission answers: a refusal at the door; admitted; or the lowest cell with a finding.
+// What admission answers: a refusal at the door; admitted; or the finding of lowest depth, and among those the one of lowest
+// address.
 pub enum AdmitAnswer {
     Refused {
         number: usize,
@@ -97,8 +98,8 @@ fn mark(image: &[u8], map: &[u8], table: &mut [u8]) -> AdmitAnswer
     }
 }
 
-// Reads an image under a map, and fills the table of facts, whatever it held. Answers admitted, or the lowest cell with a
-// finding; or a refusal, 11, 12 or 13, and then no byte changes.
+// Reads an image under a map, and fills the table of facts, whatever it held. Answers admitted, or the lowest finding, which
+// Lowest.antt tells; or a refusal, 11, 12 or 13, and then no byte changes.
 pub fn admit(image: &[u8], map: &[u8], table: &mut [u8]) -> AdmitAnswer
     ensures { λ r. ⌜ resulting r (now (table .exit)) ≡ admitResult (now (image .entry)) (now (map .entry)) (now (table .entry)) ⌝ }
 {

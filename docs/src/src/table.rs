@@ -385,6 +385,14 @@ fn named(findings: &[(usize, usize, u8)]) -> Verdict {
     Verdict::Finding { number, depth, address }
 }
 
+/// Depth, address and number of each finding that stands in a table's bytes.
+pub fn findings(table: &[u8]) -> Vec<(usize, usize, u8)> {
+    let words = table.len() / (DEPTHS * RECORD_BYTES);
+    let records = table.chunks(RECORD_BYTES).enumerate();
+    let found = records.map(|(index, record)| (index / words, index % words, record[1]));
+    found.filter(|&(_, _, number)| number != 0).collect()
+}
+
 /// Whether a state lies within the facts of its cell.
 pub fn within(table: &Table, state: &State) -> bool {
     let (depth, pc) = (usize::from(state.depth), usize::from(state.pc));

@@ -5,7 +5,7 @@ use common::{admit_words, ALL};
 use riptide_reference::digest::Random;
 use riptide_reference::naive::table_bytes;
 use riptide_reference::programs::*;
-use riptide_reference::table::{admit, Admission, Verdict};
+use riptide_reference::table::{admit, findings, Admission, Verdict};
 use riptide_reference::word::Word::*;
 
 fn finding(words: &[u16], map: &[u8]) -> (u8, usize, usize) {
@@ -19,14 +19,6 @@ fn finding(words: &[u16], map: &[u8]) -> (u8, usize, usize) {
 fn cell(table: &[u8], depth: usize, address: usize) -> &[u8] {
     let words = table.len() / 144;
     &table[16 * (depth * words + address)..][..16]
-}
-
-/// Depth, address and number of each finding that stands in a table.
-fn findings(table: &[u8]) -> Vec<(usize, usize, u8)> {
-    let words = table.len() / 144;
-    let cells = (0..9).flat_map(|depth| (0..words).map(move |address| (depth, address)));
-    let found = cells.map(|(depth, address)| (depth, address, cell(table, depth, address)[1]));
-    found.filter(|&(_, _, number)| number != 0).collect()
 }
 
 /// Sweeps and rounds give one table, findings included, and the verdict names

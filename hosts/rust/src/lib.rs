@@ -133,7 +133,7 @@ pub enum AdmitAnswer {
     Refused(Refusal),
     /// No cell of the table has a finding.
     Admitted,
-    /// The lowest cell with a finding.
+    /// Of all findings that stand in the table the one of lowest depth, and among those the one of lowest address.
     Found { number: u8, depth: u8, address: u16 },
 }
 

@@ -6,7 +6,7 @@ use riptide::{AdmitAnswer, Fields, Refusal, RunAnswer};
 use riptide_reference::digest::Random;
 use riptide_reference::programs::{bytes_of, damage, random_map, random_program, random_state, random_words, with_return_bytes};
 use riptide_reference::run as reference;
-use riptide_reference::table::{admit as reference_admit, Verdict};
+use riptide_reference::table::{admit as reference_admit, findings, Verdict};
 use riptide_reference::word::{decode, encode, is_bank, Word};
 use riptide_reference::{map as reference_map, programs};
 
@@ -89,14 +89,6 @@ fn told_verdict(answer: AdmitAnswer) -> Verdict {
     }
 }
 
-/// Depth, address and number of each finding that stands in a table.
-fn findings(table: &[u8]) -> Vec<(u8, u16, u8)> {
-    let words = table.len() / 144;
-    let cells = (0..9).flat_map(|depth| (0..words).map(move |address| (depth, address)));
-    let found = cells.map(|(depth, address)| (depth as u8, address as u16, table[16 * (depth * words + address) + 1]));
-    found.filter(|&(_, _, number)| number != 0).collect()
-}
-
 #[test]
 fn admission_equal_to_the_reference() {
     let mut random = Random(0xad417);
@@ -133,6 +125,7 @@ fn admission_equal_to_the_reference() {
                 found[number as usize] += 1;
                 // The lowest depth, and among those the lowest address (2026-02).
                 let all = findings(&table);
+                let (depth, address) = (usize::from(depth), usize::from(address));
                 assert_eq!(all.iter().min(), Some(&(depth, address, number)), "case {case}");
                 lower_address += usize::from(all.iter().any(|other| other.1 < address));
                 other_number += usize::from(all.iter().any(|other| other.2 != number));

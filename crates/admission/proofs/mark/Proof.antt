@@ -23,13 +23,13 @@ abbrev μ-loop : tie.MeasureT-loop
 loop-holds : tie.Need-loop-holds Inv-loop μ-loop
 loop-holds c =
     let s = c .before .before .before in
-    (s .pre .2, marks-begin (now (s .args .image)) (now (s .args .map)) (now (s .args .table)) (s .pre .0) _ refl)
+    (s .pre .2, marks-begin (s .pre .0) _ refl)
 
 mark-cell-requires : tie.Need-mark-cell-requires Inv-loop μ-loop
 mark-cell-requires c κs =
     let p = c .before .before .loop in
     let s = c .before .before .before .before .before .before in (
-      marks-held (now (s .args .image)) (now (s .args .map)) (now (s .args .table)) (s .pre .0) _ (p .table) (p .named) (p .inv .1),
+      marks-held (s .pre .0) _ (p .table) (p .named) (p .inv .1),
       s .pre .1,
       c .before .loop-test .taken,
       p .inv .0,
@@ -55,7 +55,7 @@ loop-again c =
     let p = test .before .loop in
     let s = test .before .before .before .before .before in (
       s .pre .2,
-      marks-next (now (s .args .image)) (now (s .args .map)) (now (s .args .table)) (s .pre .0) (p .table) _ (p .named) _ _ (test .loop-test .taken) (p .inv .0) (p .inv .1)
+      marks-next (s .pre .0) (p .table) _ (p .named) _ _ (test .loop-test .taken) (p .inv .0) (p .inv .1)
           (called .ensures .0) (called .ensures .1) (c .before .keep-lower .ensures) _ (next-depth (wordCount (now (s .args .image))) (p .depth) (p .pc) (c .if1 .taken)),
     )
 
@@ -73,7 +73,7 @@ loop-again-2 c =
     let p = test .before .loop in
     let s = test .before .before .before .before .before in (
       omega (arith, c .if1 .left, p .inv .0),
-      marks-next (now (s .args .image)) (now (s .args .map)) (now (s .args .table)) (s .pre .0) (p .table) _ (p .named) _ _ (test .loop-test .taken) (p .inv .0) (p .inv .1)
+      marks-next (s .pre .0) (p .table) _ (p .named) _ _ (test .loop-test .taken) (p .inv .0) (p .inv .1)
           (called .ensures .0) (called .ensures .1) (c .before .keep-lower .ensures) _ (next-address (wordCount (now (s .args .image))) (p .depth) (p .pc)),
     )
 
@@ -86,8 +86,8 @@ returns : tie.Need-returns Inv-loop μ-loop
 returns c =
     let p = c .before .before .before .loop in
     let s = c .before .before .before .before .before .before .before in (
-      marks-admitted (now (s .args .image)) (now (s .args .map)) (now (s .args .table)) (s .pre .0) (p .depth) (p .pc) (p .table) (p .named) (c .before .before .loop-test .left) (p .inv .1) (c .if2 .taken),
-      marks-end (now (s .args .image)) (now (s .args .map)) (now (s .args .table)) (s .pre .0) (p .depth) (p .pc) (p .table) (p .named) (c .before .before .loop-test .left) (p .inv .1),
+      marks-admitted (s .pre .0) (p .depth) (p .pc) (p .table) (p .named) (c .before .before .loop-test .left) (p .inv .1) (c .if2 .taken),
+      marks-end (s .pre .0) (p .depth) (p .pc) (p .table) (p .named) (c .before .before .loop-test .left) (p .inv .1),
     )
 
 same-length-2 : tie.Need-same-length-2 Inv-loop μ-loop
@@ -99,8 +99,8 @@ returns-2 : tie.Need-returns-2 Inv-loop μ-loop
 returns-2 c =
     let p = c .before .before .before .loop in
     let s = c .before .before .before .before .before .before .before in (
-      marks-found (now (s .args .image)) (now (s .args .map)) (now (s .args .table)) (s .pre .0) (p .depth) (p .pc) (p .table) (p .named) (c .before .before .loop-test .left) (p .inv .1) (c .if2 .left),
-      marks-end (now (s .args .image)) (now (s .args .map)) (now (s .args .table)) (s .pre .0) (p .depth) (p .pc) (p .table) (p .named) (c .before .before .loop-test .left) (p .inv .1),
+      marks-found (s .pre .0) (p .depth) (p .pc) (p .table) (p .named) (c .before .before .loop-test .left) (p .inv .1) (c .if2 .left),
+      marks-end (s .pre .0) (p .depth) (p .pc) (p .table) (p .named) (c .before .before .loop-test .left) (p .inv .1),
     )
 
 pub mark-spec : {M : Type 1} → statement M
