@@ -1,6 +1,5 @@
 -- The answer names the lowest finding that stands in the filled table, and no other answer does. Assumes nothing.
 use mathlib.Core.Path.{_≡_, refl, sym, _∙_, ap, subst}
-use mathlib.Core.Logic.{_≢_}
 use mathlib.Core.Bool.{true}
 use mathlib.Core.List.{List, [], _∷_}
 use Prim.Native.Nat.{ℕ, _<_}
@@ -8,7 +7,7 @@ use native.Mathlib.Omega.{arith}
 use lib.Arith.{digits-lt}
 use lib.Dec.{eqb}
 use lib.ListN.{length}
-use Rattle.choice.specs.Choice.{ask, asked, firstNo}
+use Rattle.choice.specs.Choice.{ask, asked}
 use Rattle.choice.proofs.Laws.{pick-beside, asked-beside}
 use Rattle.map.specs.Map.{mapLength}
 use Rattle.state.specs.State.{EachBelow}
@@ -19,7 +18,7 @@ use Rattle.transfer.specs.Passes.{tableLength, leastTable}
 use Rattle.admission.specs.declared.AdmitAnswer.{AdmitAnswer}
 use Rattle.admission.specs.declared.AdmitAnswer.the-variants.{Refused, Admitted, Found}
 use Rattle.admission.specs.Admission.{filledTable, verdictOf, admitQuestions, AdmitResult, resulting, admitResult}
-use Rattle.admission.specs.Lowest.{findingIn, Lowest, Says, OneAnswer, NoFreedom}
+use Rattle.admission.specs.Lowest.{findingIn, Lowest, Says, Holds, NoFreedom}
 use Rattle.admission.proofs.Lowest.{Names, names-one, names-same}
 use Rattle.admission.proofs.Verdict.{cellFinding, verdict-names}
 use Rattle.admission.proofs.Filled.{filled-byte}
@@ -62,7 +61,7 @@ module _ (image table after : List ℕ) where
   says-one door (Found n d a) (Found m e b) s t = names-one (wordCount image) (findingIn image after) (Found n d a) (Found m e b) (s .1) (t .1)
 
 module _ (image map table : List ℕ) (bytes : EachBelow 256 image) where
-  answer-holds : Says image table (admitResult image map table .table) (firstNo (admitQuestions image map table)) (admitResult image map table .answer)
+  answer-holds : Holds image map table (admitResult image map table .answer)
   unfolding admitResult
   answer-holds =
       pick-beside R (imageFits image)
@@ -92,7 +91,7 @@ pub found-lowest : (image map table : List ℕ) {number depth address : ℕ} →
     → admitResult image map table .answer ≡ Found number depth address
     → Lowest (wordCount image) (findingIn image (admitResult image map table .table)) number depth address
 found-lowest image map table bytes e =
-    subst (Says image table (admitResult image map table .table) (firstNo (admitQuestions image map table))) e (answer-holds image map table bytes) .1
+    subst (Holds image map table) e (answer-holds image map table bytes) .1
 
 -- two stations give one answer: of the lent table only its length matters
 pub same-answer : (image map table other : List ℕ) → length table ≡ length other

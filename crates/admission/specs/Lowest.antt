@@ -12,7 +12,7 @@ use Rattle.facts.specs.Record.{recordSize, depths}
 use Rattle.transfer.specs.Passes.{pointAt}
 use Rattle.admission.specs.declared.AdmitAnswer.{AdmitAnswer}
 use Rattle.admission.specs.declared.AdmitAnswer.the-variants.{Refused, Admitted, Found}
-use Rattle.admission.specs.Admission.{admitQuestions, AdmitResult, admitResult}
+use Rattle.admission.specs.Admission.{admitQuestions, admitResult}
 
 -- The finding that stands in a table at a depth and an address: byte 1 of that cell's record.
 abbrev pub findingIn : List ℕ → List ℕ → ℕ → ℕ → ℕ
@@ -32,20 +32,21 @@ pub record Lowest (words : ℕ) (finding : ℕ → ℕ → ℕ) (number depth ad
   pub shallower : (d a : ℕ) → d < depth → a < words → finding d a ≡ 0
   pub before : (a : ℕ) → a < address → finding depth a ≡ 0
 
--- What an answer says, where `door` is the number of the first no at the door, or 0: of the table as it was lent and after.
+-- What an answer says of the table as it was lent and after, `door` being the number of the first no at the door, or 0.
 abbrev pub Says : List ℕ → List ℕ → List ℕ → ℕ → AdmitAnswer → Type 0
 Says image table after door (Refused number) = (door ≡ number) × (number ≢ 0) × (after ≡ table)
 Says image table after door Admitted = (door ≡ 0) × Clear (wordCount image) (findingIn image after)
 Says image table after door (Found number depth address) =
     (door ≡ 0) × Lowest (wordCount image) (findingIn image after) number depth address
 
--- "With this no freedom is left in admission's answer": what the answer of `admit` says holds of the bytes that it leaves,
--- and what any other answer says does not.
+-- what an answer says holds of the bytes that admission leaves
+abbrev pub Holds : List ℕ → List ℕ → List ℕ → AdmitAnswer → Type 0
+Holds image map table = Says image table (admitResult image map table .table) (firstNo (admitQuestions image map table))
+
+-- "With this no freedom is left in admission's answer": what `admit` answers holds, and nothing else does.
 pub record OneAnswer (image map table : List ℕ) : Type 0 where
-  pub holds : Says image table (admitResult image map table .table) (firstNo (admitQuestions image map table)) (admitResult image map table .answer)
-  pub only : (other : AdmitAnswer)
-      → Says image table (admitResult image map table .table) (firstNo (admitQuestions image map table)) other
-      → other ≡ admitResult image map table .answer
+  pub holds : Holds image map table (admitResult image map table .answer)
+  pub only : (other : AdmitAnswer) → Holds image map table other → other ≡ admitResult image map table .answer
 
 abbrev pub NoFreedom : List ℕ → List ℕ → List ℕ → Type 0
 NoFreedom image map table = EachBelow 256 image → OneAnswer image map table

@@ -3,7 +3,7 @@ use mathlib.Core.Path.{_≡_, refl, sym, _∙_, ap}
 use mathlib.Core.Logic.{_↔_}
 use mathlib.Core.Bool.{Bool, true, false}
 use mathlib.Core.List.{List, [], _∷_, _++_, append-assoc}
-use Prim.Native.Nat.{ℕ, _+_, _-_, _*_, _/_, _%_, _≤_, _<_}
+use Prim.Native.Nat.{ℕ, _+_, _-_, _*_, _/_, _%_, _<_}
 use native.Mathlib.Omega.{arith}
 use lib.Dec.{ltb, leb}
 use lib.ListN.{length, getD, take, drop}
@@ -21,7 +21,7 @@ use Rattle.admission.specs.declared.AdmitAnswer.the-variants.{Refused, Admitted
 use Rattle.admission.specs.Admission.{filledTable, verdictOf}
 use Rattle.admission.specs.Lowest.{findingIn, Lowest}
 use Rattle.admission.proofs.OneAnswer.{lowest-verdict, verdict-lowest}
-use Rattle.line.specs.Line.{decimal, admittedText, refusedText, depthText, addressText, endText, doorLine, admittedLine, foundLine, answerLine, inputQuestions, wordsLine, lineOf}
+use Rattle.line.specs.Line.{decimal, refusedText, depthText, addressText, endText, doorLine, admittedLine, foundLine, answerLine, wordsLine, lineOf}
 use Rattle.line.specs.Lowest.{LineNames}
 use Rattle.line.proofs.Answers.{never-refused}
 
