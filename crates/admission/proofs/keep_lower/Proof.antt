@@ -13,4 +13,4 @@ stays : (before found : Named) → before .number ≢ 0 → before ≡ pick (eqb
 stays before found some = rw (ne-eqb (before .number) 0 some)
 
 pub keep-lower-spec : {M : Type 1} → statement M
-keep-lower-spec = tie.close (tie.spec (λ c. rw (eq-eqb _ 0 (c .if1 .taken))) (λ c. stays _ _ (search needs)))
+keep-lower-spec = tie.close (tie.spec (λ c. let none = c .if1 .taken in rw eq-eqb) (λ c. stays _ _ (search needs)))
