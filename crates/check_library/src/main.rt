@@ -179,10 +179,10 @@ fn run_over(image: &[u8], map: &[u8], state: &mut [u8], recording: &[u8], trace:
 }
 
 // Room for the longest trace.
-fn trace_buffer() -> [u8; 131072]
-    ensures { λ r. ⌜ 131072 ≡ length r ⌝ }
+fn trace_buffer() -> [u8; 262144]
+    ensures { λ r. ⌜ 262144 ≡ length r ⌝ }
 {
-    [0; 131072]
+    [0; 262144]
 }
 
 fn run(s: &[u8], at: usize)

@@ -1,10 +1,10 @@
 -- What the code of a run yields is the definition's result: one law for each way out. Assumes nothing.
-use mathlib.Core.Bool.{true, false}
+use mathlib.Core.Bool.{Bool, true, false, _&&_}
 use mathlib.Core.List.{List}
-use mathlib.Core.Path.{_≡_, sym, ap, _∙_}
-use Prim.Native.Nat.{ℕ, _*_, _%_, _≤_, _<_}
+use mathlib.Core.Path.{_≡_, refl, sym, ap, _∙_}
+use Prim.Native.Nat.{ℕ, _*_, _/_, _%_, _≤_, _<_}
 use native.Mathlib.Omega.{arith}
-use borrow.Author.Tests.{leb-true, eq-eqb, ne-eqb}
+use borrow.Author.Tests.{leb-true, eq-eqb, ne-eqb, eqb-true, eqb-false}
 use lib.Dec.{leb, eqb}
 use lib.ListN.{length}
 use Rattle.choice.proofs.Laws.{and-first, and-second}
@@ -17,7 +17,7 @@ use Rattle.machine.specs.Step.{wordCount}
 use Rattle.machine.specs.Parts.{whole}
 use Rattle.emulator.specs.declared.Last.{Last}
 use Rattle.emulator.specs.declared.RunAnswer.the-variants.{Refused, Ended}
-use Rattle.emulator.specs.Run.{pairLength, pairCount, recordLength, Ran, ranOver, imageFits, stateFits, RunResult, yielded, ended, runResult}
+use Rattle.emulator.specs.Run.{pairLength, pairCount, recordLength, Ran, ranOver, imageFits, stateFits, traceFits, RunResult, yielded, ended, runResult}
 use Rattle.emulator.specs.Parts.{lastState, ranTo, laidOver, Accepted}
 use Rattle.emulator.proofs.Going.{ran-stopped}
 
@@ -64,6 +64,18 @@ image-some image h =
     let least = leb-true 2 (length image) (and-first (leb 2 (length image)) _ (and-second (eqb (length image % 2) 0) _ h)) in
     omega arith
 
+-- n bytes are m records
+pub exactly : (n m : ℕ) → (eqb (n % recordLength) 0 && eqb (n / recordLength) m) ≡ eqb n (m * recordLength)
+exactly n m = go (eqb n (m * recordLength)) refl (eqb (n % recordLength) 0) refl
+  where
+    go : (all : Bool) → eqb n (m * recordLength) ≡ all → (whole : Bool) → eqb (n % recordLength) 0 ≡ whole → (whole && eqb (n / recordLength) m) ≡ all
+    go true e true h = let same = eqb-true n (m * recordLength) e in eq-eqb (n / recordLength) m (omega arith)
+    go true e false h = let same = eqb-true n (m * recordLength) e in absurd (eqb-false (n % recordLength) 0 h (omega arith))
+    go false e true h =
+        let whole = eqb-true (n % recordLength) 0 h in
+        ne-eqb (n / recordLength) m (λ same. eqb-false n (m * recordLength) e (omega arith))
+    go false e false h = refl
+
 module _ (state : List ℕ) where
   pub wrong-length : (length state ≡ stateLength → ⊥) → stateFits state ≡ false
   unfolding stateFits
@@ -100,7 +112,7 @@ module _ (image map state recording trace : List ℕ) where
         refused-15 h = rw (words, eq-eqb (length map) mapLength long, formed, ne-eqb (length recording % pairLength) 0 h)
 
         module _ (even : length recording % pairLength ≡ 0) where
-          pub refused-16 : (length trace ≡ pairCount recording * recordLength → ⊥)
+          pub refused-16 : traceFits recording trace ≡ false
               → yielded (Refused 16) state trace ≡ runResult image map state recording trace
           unfolding runResult
           refused-16 h =
@@ -109,10 +121,10 @@ module _ (image map state recording trace : List ℕ) where
                 eq-eqb (length map) mapLength long,
                 formed,
                 eq-eqb (length recording % pairLength) 0 even,
-                ne-eqb (length trace) (pairCount recording * recordLength) h,
+                h,
               )
 
-          module _ (room : length trace ≡ pairCount recording * recordLength) where
+          module _ (room : traceFits recording trace ≡ true) where
             pub let-in : (o : RunResult) → o ≡ ended trace (ranOver image map recording (loaded state))
                 → o ≡ runResult image map state recording trace
             unfolding runResult
@@ -122,7 +134,7 @@ module _ (image map state recording trace : List ℕ) where
                   eq-eqb (length map) mapLength long,
                   formed,
                   eq-eqb (length recording % pairLength) 0 even,
-                  eq-eqb (length trace) (pairCount recording * recordLength) room,
+                  room,
                 ) h
 
             -- a state that came in stopped
@@ -135,13 +147,13 @@ module _ (image map state recording trace : List ℕ) where
 
 -- what the steps need
 pub let-in-sound : (image map state recording trace : List ℕ) → imageFits image ≡ true → length map ≡ mapLength
-    → length state ≡ stateLength → wellFormed (loaded state) ≡ true → EachBelow 256 state → length trace ≡ pairCount recording * recordLength
+    → length state ≡ stateLength → wellFormed (loaded state) ≡ true → EachBelow 256 state → traceFits recording trace ≡ true
     → Accepted image map recording trace (loaded state)
 let-in-sound image map state recording trace words long full formed bytes room =
     record {
       words = image-words image words;
       long = long;
-      room = room;
+      room = eqb-true (length trace) (pairCount recording * recordLength) room;
       formed = well-formed-parts (loaded state) formed;
       sized = loaded-sized state full bytes;
     }

@@ -6,18 +6,18 @@ use native.Mathlib.Nat.{zero-add, add-zero}
 use native.Mathlib.Omega.{arith}
 use borrow.Rule.Slice.PartMut.{putMid}
 use borrow.Author.Tests.{eq-eqb, ne-eqb}
-use lib.ListN.{length, getD, take, drop, length-take, length-drop, take-append-drop}
+use lib.ListN.{length, getD, take, drop, length-append, take-append-drop}
 use lib.Seq.{drop-cons, drop-drop, length-take-le}
 use Rattle.state.specs.declared.State.{State}
-use Rattle.state.specs.State.{EachBelow}
+use Rattle.state.specs.State.{twoBytes, EachBelow}
 use Rattle.machine.specs.declared.Sequencer.{Sequencer}
 use Rattle.machine.specs.declared.Effect.{Effect}
 use Rattle.machine.specs.Parts.{whole, outcome}
-use Rattle.machine.specs.Step.{wordCount, Outcome, stepped}
-use Rattle.machine.proofs.Keeps.{Sound, SoundOutcome, step-sound}
-use Rattle.emulator.specs.Run.{pairLength, pairCount, recordLength, Ran, noStep, after, ranOver, writtenOver}
-use Rattle.emulator.specs.Parts.{traceRecordOf, TraceBytes, sequencerOf, lastState, ranTo, laidOver, Accepted}
-use Rattle.emulator.proofs.Written.{part-written, written, written-take, written-drop, written-length}
+use Rattle.machine.specs.Step.{wordCount, Step, stepFrom, stepped}
+use Rattle.machine.proofs.Keeps.{Sound, SoundOutcome, outcomeOf, step-sound}
+use Rattle.emulator.specs.Run.{pairLength, pairCount, recordLength, recordOf, Ran, noStep, after, ranOver, writtenOver}
+use Rattle.emulator.specs.Parts.{halfLength, eventBytes, addressBytes, EventFits, sequencerOf, lastState, ranTo, laidOver, Accepted}
+use Rattle.emulator.proofs.Written.{room-from, part-written, written, written-take, written-drop, written-length, written-before}
 
 -- ---- the run by its parts
 
@@ -72,12 +72,16 @@ further i records r = record { state = r .state; count = i + r .count; trace = r
 pub further-none : (r : Ran) → further 0 [] r ≡ r
 further-none r = ap (λ (n : ℕ). record { state = r .state; count = n; trace = r .trace }) (zero-add (r .count))
 
-further-after : (i : ℕ) (records : List ℕ) (o : Outcome) (r : Ran) → further i records (after o r) ≡ further (i + 1) (records ++ o .trace) r
+further-after : (i : ℕ) (records : List ℕ) (o : Step) (r : Ran) → further i records (after o r) ≡ further (i + 1) (records ++ recordOf o) r
 further-after i records o r =
-    ap₂ (λ (n : ℕ) (t : List ℕ). record { state = r .state; count = n; trace = t }) count (sym (append-assoc records (o .trace) (r .trace)))
+    ap₂ (λ (n : ℕ) (t : List ℕ). record { state = r .state; count = n; trace = t }) count (sym (append-assoc records (recordOf o) (r .trace)))
   where
     count : i + suc (r .count) ≡ i + 1 + r .count
     count = omega arith
+
+-- a record has its length
+pub record-long : (o : Step) → length (o .event) ≡ halfLength → length (recordOf o) ≡ recordLength
+record-long o h = simp length-append (omega (arith, h))
 
 module _ (image map recording start : List ℕ) (s₀ : State) where
   -- after i pairs: the state, and the trace's bytes that were start
@@ -99,32 +103,32 @@ module _ (image map recording start : List ℕ) (s₀ : State) where
         runs = sym (further-none (ranOver image map recording s₀));
       }
 
-  -- a step on the way leaves a sound state and a record of four bytes
-  pub goes-sound : (i : ℕ) (s : State) (trace : List ℕ) (o : Outcome) → wordCount image ≤ 8192 → EachBelow 256 image → EachBelow 256 recording
-      → Going i s trace → o ≡ stepped image map (pairOf recording i) s → SoundOutcome o
+  -- a step on the way leaves a sound state, and four bytes tell what its word does
+  pub goes-sound : (i : ℕ) (s : State) (trace : List ℕ) (o : Step) → wordCount image ≤ 8192 → EachBelow 256 image → EachBelow 256 recording
+      → Going i s trace → o ≡ stepped image map (pairOf recording i) s → SoundOutcome (outcomeOf o)
   goes-sound i s trace o words bytes pairs g step =
-      subst SoundOutcome (sym step) (step-sound image map (pairOf recording i) s words bytes (pair-below recording i pairs) (g .sound))
+      subst (λ (p : Step). SoundOutcome (outcomeOf p)) (sym step) (step-sound image map (pairOf recording i) s words bytes (pair-below recording i pairs) (g .sound))
 
   -- one step
-  pub goes-on : (i : ℕ) (s : State) (trace next : List ℕ) (o : Outcome) → length start ≡ pairCount recording * recordLength
-      → Going i s trace → i < pairCount recording → s .stop ≡ 0 → o ≡ stepped image map (pairOf recording i) s → SoundOutcome o
-      → next ≡ written (recordLength * i) trace (o .trace)
+  pub goes-on : (i : ℕ) (s : State) (trace next : List ℕ) (o : Step) → length start ≡ pairCount recording * recordLength
+      → Going i s trace → i < pairCount recording → s .stop ≡ 0 → o ≡ stepped image map (pairOf recording i) s → SoundOutcome (outcomeOf o)
+      → next ≡ written (recordLength * i) trace (recordOf o)
       → Going (i + 1) (o .state) next
   goes-on i s trace next o room g h running step sound write =
       record {
         within = omega arith;
-        same = ap length write ∙ written-length at recordLength trace (o .trace) (sound .long) fits ∙ g .same;
+        same = ap length write ∙ written-length at recordLength trace (recordOf o) long fits ∙ g .same;
         rest =
-            ap₂ drop past write ∙ written-drop at recordLength trace (o .trace) (sound .long) fits
+            ap₂ drop past write ∙ written-drop at recordLength trace (recordOf o) long fits
             ∙ sym (drop-drop recordLength at trace) ∙ ap (drop recordLength) (g .rest) ∙ drop-drop recordLength at start ∙ ap (λ (k : ℕ). drop k start) (sym past);
         sound = sound .state;
         runs =
             g .runs ∙ ap (further i (take at trace)) (ap (λ (l : List ℕ). ranOver image map l s) (pair-at recording i h)
             ∙ ran-pair image map (getD recording (pairLength * i) 0) (getD recording (pairLength * i + 1) 0) left s running
-            ∙ ap (λ (p : Outcome). after p (ranOver image map left (p .state))) (sym step))
+            ∙ ap (λ (p : Step). after p (ranOver image map left (p .state))) (sym step))
             ∙ further-after i (take at trace) o (ranOver image map left (o .state))
             ∙ ap (λ (l : List ℕ). further (i + 1) l (ranOver image map left (o .state)))
-            (sym (ap₂ take past write ∙ written-take at recordLength trace (o .trace) (sound .long) fits));
+            (sym (ap₂ take past write ∙ written-take at recordLength trace (recordOf o) long fits));
       }
     where
       at : ℕ
@@ -140,10 +144,8 @@ module _ (image map recording start : List ℕ) (s₀ : State) where
       fits : at + recordLength ≤ length trace
       fits = omega (arith, g .same)
 
-  -- there is room for the next record
-  pub room-left : (i : ℕ) (s : State) (trace : List ℕ) → length start ≡ pairCount recording * recordLength → Going i s trace
-      → i < pairCount recording → recordLength ≤ length (take (length trace - recordLength * i) (drop (recordLength * i) trace))
-  room-left i s trace room g h = simp (length-take, length-drop) (omega (arith, g .same))
+      long : length (recordOf o) ≡ recordLength
+      long = record-long o (sound .long)
 
   -- where nothing is left to run, the run is done
   pub ends : (i : ℕ) (s : State) (trace : List ℕ) → length start ≡ pairCount recording * recordLength → Going i s trace → ranOver image map (drop (pairLength * i) recording) s ≡ noStep s
@@ -164,39 +166,79 @@ module _ (image map recording start : List ℕ) (s₀ : State) where
           ap (λ (k : ℕ). take at trace ++ drop k start) (length-take-le at trace (omega (arith, g .within, g .same)))
           ∙ ap (λ (l : List ℕ). take at trace ++ l) (sym (g .rest)) ∙ take-append-drop at trace
 
-  -- ---- a step of the code
+-- ---- a step of the code
 
-  -- i steps on the way, what the next one leaves, and the part of the trace that it has written
-  module _ (i : ℕ) (q : Sequencer) (v l r trace : List ℕ) (e : Effect) (v′ l′ r′ : List ℕ) (door : Accepted image map recording start s₀)
-      (bytes : EachBelow 256 image) (pairs : EachBelow 256 recording) (g : Going i (whole q v l r) trace)
-      (step : outcome e v′ l′ r′ ≡ stepped image map (pairOf recording i) (whole q v l r)) where
-    sound : SoundOutcome (outcome e v′ l′ r′)
-    sound = goes-sound i (whole q v l r) trace (outcome e v′ l′ r′) (door .words) bytes pairs g step
+-- i steps on the way, and another pair
+module _ {image map recording start : List ℕ} {s₀ : State} {i : ℕ} {trace : List ℕ} (q : Sequencer) (v l r : List ℕ)
+    (door : Accepted image map recording start s₀) (g : Going image map recording start s₀ i (whole q v l r) trace) (h : i < pairCount recording) where
+  abbrev at : ℕ
+  at = recordLength * i
 
-    pub record-bytes : TraceBytes e
-    record-bytes =
-        record { kind = sound .bytes 0; address = sound .bytes 1; written = sound .bytes 2; stop = sound .bytes 3 }
+  -- the places of the addresses in the trace, and of what the word does
+  abbrev behind : ℕ
+  behind = at + halfLength
 
-    module _ (h : i < pairCount recording) (part : List ℕ)
-        (write : part ≡ writtenOver (traceRecordOf e) (take (length trace - recordLength * i) (drop (recordLength * i) trace))) where
-      -- the trace with the part back
-      abbrev back : List ℕ
-      back = putMid (recordLength * i) (length trace - recordLength * i) trace part
+  fits : at + recordLength ≤ length trace
+  fits = omega (arith, g .same, door .room)
 
-      next : (p : Sequencer) (n : ℕ) → p ≡ sequencerOf e → n ≡ e .stop → Going (i + 1) (lastState (record { q = p; count = i + 1; stop = n }) v′ l′ r′) back
-      next p n hp hn =
-          subst (λ (s : State). Going (i + 1) s back)
-          (sym (ap₂ (λ (x : Sequencer) (m : ℕ). lastState (record { q = x; count = i + 1; stop = m }) v′ l′ r′) hp hn))
-          (goes-on i (whole q v l r) trace back (outcome e v′ l′ r′) (door .room) g h refl step sound
-          (part-written (recordLength * i) trace part (traceRecordOf e) write))
+  -- there is room for the addresses
+  pub room-behind : halfLength ≤ length (take (length trace - (recordLength * i + halfLength)) (drop (recordLength * i + halfLength) trace))
+  room-behind = room-from behind halfLength trace (omega (arith, fits))
 
-      pub again : (p : Sequencer) → p ≡ sequencerOf e → e .stop ≡ 0
-          → Going (i + 1) (whole p v′ l′ r′) (putMid (recordLength * i) (length trace - recordLength * i) trace part)
-      again p hp running = next p 0 hp (sym running)
+  -- the trace with the part back in which they were written
+  module _ {half : List ℕ}
+      (addresses : half ≡ writtenOver (addressBytes q) (take (length trace - (recordLength * i + halfLength)) (drop (recordLength * i + halfLength) trace))) where
+    abbrev located : List ℕ
+    located = putMid behind (length trace - behind) trace half
 
-      pub stops : (p : Sequencer) → p ≡ sequencerOf e → (e .stop ≡ 0 → ⊥)
-          → ranTo (record { q = p; count = i + 1; stop = e .stop }) v′ l′ r′ (putMid (recordLength * i) (length trace - recordLength * i) trace part)
-          ≡ laidOver (ranOver image map recording s₀) start
-      stops p hp stopped =
-          ends (i + 1) (lastState (record { q = p; count = i + 1; stop = e .stop }) v′ l′ r′) back (door .room) (next p (e .stop) hp refl)
-          (ran-stopped image map (drop (pairLength * (i + 1)) recording) _ stopped)
+    halfway : located ≡ written behind trace (addressBytes q)
+    halfway = part-written behind trace half (addressBytes q) addresses
+
+    -- there is room for what the word does
+    pub room-before : halfLength ≤ length (take (length located - recordLength * i) (drop (recordLength * i) located))
+    room-before = room-from at halfLength located (omega (arith, fits, same))
+      where
+        same : length located ≡ length trace
+        same = ap length halfway ∙ written-length behind halfLength trace (addressBytes q) refl (omega (arith, fits))
+
+    -- the step
+    module _ (e : Effect) (v′ l′ r′ : List ℕ) (bytes : EachBelow 256 image) (pairs : EachBelow 256 recording)
+        (step : stepFrom (whole q v l r) (outcome e v′ l′ r′) ≡ stepped image map (pairOf recording i) (whole q v l r)) where
+      abbrev made : Step
+      made = stepFrom (whole q v l r) (outcome e v′ l′ r′)
+
+      sound : SoundOutcome (outcome e v′ l′ r′)
+      sound = goes-sound image map recording start s₀ i (whole q v l r) trace made (door .words) bytes pairs g step
+
+      pub event-fits : EventFits e
+      event-fits =
+          record { kind = sound .bytes 0; address = sound .bytes 1; written = sound .bytes 2; stop = sound .bytes 3 }
+
+      -- and the part back in which was written what its word does
+      module _ {part : List ℕ} (event : part ≡ writtenOver (eventBytes e) (take (length located - recordLength * i) (drop (recordLength * i) located))) where
+        abbrev back : List ℕ
+        back = putMid at (length located - at) located part
+
+        recorded : back ≡ written at trace (recordOf made)
+        recorded =
+            part-written at located part (eventBytes e) event ∙ ap (λ (t : List ℕ). written at t (eventBytes e)) halfway
+            ∙ written-before at halfLength trace (eventBytes e) (addressBytes q) refl (omega (arith, fits))
+
+        next : (p : Sequencer) (n : ℕ) → p ≡ sequencerOf e → n ≡ e .stop
+            → Going image map recording start s₀ (i + 1) (lastState (record { q = p; count = i + 1; stop = n }) v′ l′ r′) back
+        next p n hp hn =
+            subst (λ (s : State). Going image map recording start s₀ (i + 1) s back)
+            (sym (ap₂ (λ (x : Sequencer) (m : ℕ). lastState (record { q = x; count = i + 1; stop = m }) v′ l′ r′) hp hn))
+            (goes-on image map recording start s₀ i (whole q v l r) trace back made (door .room) g h refl step sound recorded)
+
+        pub again : (p : Sequencer) → p ≡ sequencerOf e → e .stop ≡ 0 → Going image map recording start s₀ (i + 1) (whole p v′ l′ r′) back
+        again p hp running = next p 0 hp (sym running)
+
+        pub as-long : length back ≡ length start
+        as-long = next (sequencerOf e) (e .stop) refl refl .same
+
+        pub stops : (p : Sequencer) → p ≡ sequencerOf e → (e .stop ≡ 0 → ⊥)
+            → ranTo (record { q = p; count = i + 1; stop = e .stop }) v′ l′ r′ back ≡ laidOver (ranOver image map recording s₀) start
+        stops p hp stopped =
+            ends image map recording start s₀ (i + 1) (lastState (record { q = p; count = i + 1; stop = e .stop }) v′ l′ r′) back (door .room) (next p (e .stop) hp refl)
+            (ran-stopped image map (drop (pairLength * (i + 1)) recording) _ stopped)

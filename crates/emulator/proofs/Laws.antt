@@ -16,10 +16,10 @@ use Rattle.state.specs.State.{EachBelow, loaded, stored, wellFormed}
 use Rattle.state.proofs.Laws.{stored-length}
 use Rattle.state.proofs.RoundTrip.{store-then-load}
 use Rattle.state.proofs.WellFormed.{formed}
-use Rattle.machine.specs.Step.{wordCount, Outcome, stepped}
-use Rattle.machine.proofs.Keeps.{Sound, step-sound, record-long}
-use Rattle.emulator.specs.Run.{pairLength, pairCount, recordLength, Ran, noStep, after, ranOver, imageFits, stateFits, recordingFits, traceFits, doorQuestions, RunResult, refused, ended, runResult}
-use Rattle.emulator.proofs.Going.{ran-stopped, ran-pair, further, further-none}
+use Rattle.machine.specs.Step.{wordCount, Step, stepped}
+use Rattle.machine.proofs.Keeps.{Sound, step-sound, step-event-long}
+use Rattle.emulator.specs.Run.{pairLength, pairCount, recordLength, recordOf, Ran, noStep, after, ranOver, imageFits, stateFits, recordingFits, traceFits, doorQuestions, RunResult, refused, ended, runResult}
+use Rattle.emulator.proofs.Going.{ran-stopped, ran-pair, further, further-none, record-long}
 use Rattle.emulator.proofs.Door.{fits}
 
 -- ---- the pairs of a recording, one by one
@@ -42,19 +42,19 @@ module _ (image map : List ℕ) (Q : List ℕ → State → Ran → Type 0)
 
 -- ---- counts and trace records
 
--- a record for each pair: "twice the recording's length"
-pub twice : (recording : List ℕ) → length recording % pairLength ≡ 0 → pairCount recording * recordLength ≡ 2 * length recording
-twice recording even = omega arith
+-- a record for each pair: "four times the recording's length"
+pub four-times : (recording : List ℕ) → length recording % pairLength ≡ 0 → pairCount recording * recordLength ≡ 4 * length recording
+four-times recording even = omega arith
 
 module _ (image map : List ℕ) where
-  -- four bytes of trace for each step that is counted
+  -- a record for each step that is counted
   pub trace-length : (recording : List ℕ) (s : State)
       → length (ranOver image map recording s .trace) ≡ recordLength * ranOver image map recording s .count
   trace-length =
       by-pairs image map (λ recording s r. length (r .trace) ≡ recordLength * r .count) (λ recording s h. refl) (λ recording s h. refl)
       (λ left right rest s r h e.
-      length-append (stepped image map (left ∷ right ∷ []) s .trace) (r .trace)
-      ∙ omega (arith, record-long image map (left ∷ right ∷ []) s))
+      length-append (recordOf (stepped image map (left ∷ right ∷ []) s)) (r .trace)
+      ∙ omega (arith, record-long (stepped image map (left ∷ right ∷ []) s) (step-event-long image map (left ∷ right ∷ []) s)))
 
   -- at most a step for each pair
   pub count-most : (recording : List ℕ) (s : State) → ranOver image map recording s .count ≤ pairCount recording
@@ -72,10 +72,10 @@ module _ (image map : List ℕ) where
 -- ---- runs chain
 
 -- a step before a run that goes further
-after-further : (o : Outcome) (n : ℕ) (records : List ℕ) (r : Ran)
-    → after o (further n records r) ≡ further (suc n) (o .trace ++ records) r
+after-further : (o : Step) (n : ℕ) (records : List ℕ) (r : Ran)
+    → after o (further n records r) ≡ further (suc n) (recordOf o ++ records) r
 after-further o n records r =
-    ap₂ (λ (k : ℕ) (t : List ℕ). record { state = r .state; count = k; trace = t }) count (sym (append-assoc (o .trace) records (r .trace)))
+    ap₂ (λ (k : ℕ) (t : List ℕ). record { state = r .state; count = k; trace = t }) count (sym (append-assoc (recordOf o) records (r .trace)))
   where
     count : suc (n + r .count) ≡ suc n + r .count
     count = omega arith
@@ -118,17 +118,17 @@ run-keeps image map P step =
     by-pairs image map (λ recording s r. EachBelow 256 recording → P s → P (r .state)) (λ recording s h b p. p) (λ recording s h b p. p)
     (λ left right rest s r h keeps b p. keeps (λ k. b (suc (suc k))) (step left right s (b 0) (b 1) h p))
 
-two-bytes : {left right : ℕ} → left < 256 → right < 256 → EachBelow 256 (left ∷ right ∷ [])
-two-bytes hl hr zero = hl
-two-bytes hl hr (suc zero) = hr
-two-bytes hl hr (suc (suc k)) = omega arith
+pub two-below : {left right : ℕ} → left < 256 → right < 256 → EachBelow 256 (left ∷ right ∷ [])
+two-below hl hr zero = hl
+two-below hl hr (suc zero) = hr
+two-below hl hr (suc (suc k)) = omega arith
 
 -- a run leaves a sound state sound
 pub run-sound : (image map recording : List ℕ) (s : State) → wordCount image ≤ 8192 → EachBelow 256 image → EachBelow 256 recording
     → Sound s → Sound (ranOver image map recording s .state)
 run-sound image map recording s words bytes =
     run-keeps image map Sound
-    (λ left right t hl hr h sound. step-sound image map (left ∷ right ∷ []) t words bytes (two-bytes hl hr) sound .state) recording s
+    (λ left right t hl hr h sound. step-sound image map (left ∷ right ∷ []) t words bytes (two-below hl hr) sound .state) recording s
 
 -- whose bytes question 14 lets in
 pub sound-fits : (s : State) → Sound s → stateFits (stored s) ≡ true

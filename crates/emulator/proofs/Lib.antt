@@ -4,3 +4,4 @@ pub mod Door
 pub mod Laws
 pub mod Values
 pub mod Range
+pub mod Addresses

@@ -27,7 +27,7 @@ Ranged pairs (Refused number) = (11 ≤ number) × (number < 17)
 Ranged pairs (Ended count stop) = (count ≤ pairs) × ((stop ≡ 0) ⊎ ((21 ≤ stop) × (stop ≤ 27)))
 
 -- a state that question 14 lets in
-let-in-state : (state : List ℕ) → EachBelow 256 state → stateFits state ≡ true → Sound (loaded state)
+pub let-in-state : (state : List ℕ) → EachBelow 256 state → stateFits state ≡ true → Sound (loaded state)
 unfolding stateFits
 let-in-state state bytes h =
     record {

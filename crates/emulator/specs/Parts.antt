@@ -1,23 +1,30 @@
 -- The run as the code holds it: what a step's effect writes, what the steps of a run leave, and what they need.
-use mathlib.Core.List.{List, [], _∷_}
+use mathlib.Core.List.{List, [], _∷_, _++_}
 use mathlib.Core.Path.{_≡_}
 use Prim.Native.Nat.{ℕ, _*_, _<_, _≤_}
 use lib.ListN.{length}
 use Rattle.map.specs.Map.{mapLength}
 use Rattle.state.specs.declared.State.{State}
-use Rattle.state.specs.State.{Formed, Sized}
+use Rattle.state.specs.State.{twoBytes, Formed, Sized}
 use Rattle.machine.specs.declared.Sequencer.{Sequencer}
 use Rattle.machine.specs.declared.Effect.{Effect}
+use Rattle.machine.specs.Parts.{fetchOf}
 use Rattle.machine.specs.Step.{wordCount}
 use Rattle.emulator.specs.declared.Last.{Last}
 use Rattle.emulator.specs.Run.{Ran, pairCount, recordLength, writtenOver}
 
--- a step's trace record
-abbrev pub traceRecordOf : Effect → List ℕ
-traceRecordOf e = e .kind ∷ e .address ∷ e .written ∷ e .stop ∷ []
+-- the two halves of a step's trace record: what its word does, and where
+abbrev pub halfLength : ℕ
+halfLength = 4
 
--- its numbers fit bytes
-pub record TraceBytes (e : Effect) : Type 0 where
+abbrev pub eventBytes : Effect → List ℕ
+eventBytes e = e .kind ∷ e .address ∷ e .written ∷ e .stop ∷ []
+
+abbrev pub addressBytes : Sequencer → List ℕ
+addressBytes q = twoBytes (q .pc) ++ twoBytes (fetchOf q)
+
+-- the numbers of the first fit bytes
+pub record EventFits (e : Effect) : Type 0 where
   pub kind : e .kind < 256
   pub address : e .address < 256
   pub written : e .written < 256

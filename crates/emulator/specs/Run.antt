@@ -7,8 +7,8 @@ use lib.ListN.{length, drop}
 use Rattle.choice.specs.Choice.{pick, Question, ask, asked}
 use Rattle.map.specs.Map.{mapLength}
 use Rattle.state.specs.declared.State.{State}
-use Rattle.state.specs.State.{stateLength, loaded, stored, wellFormed}
-use Rattle.machine.specs.Step.{Outcome, stepped}
+use Rattle.state.specs.State.{stateLength, twoBytes, loaded, stored, wellFormed}
+use Rattle.machine.specs.Step.{Step, stepped}
 use Rattle.emulator.specs.declared.RunAnswer.{RunAnswer}
 use Rattle.emulator.specs.declared.RunAnswer.the-variants.{Refused, Ended}
 
@@ -19,9 +19,13 @@ pairLength = 2
 abbrev pub pairCount : List ℕ → ℕ
 pairCount recording = length recording / pairLength
 
--- "The trace has 4 bytes for each step"
+-- "Each trace record grows to 8 bytes" (2026-03 of document 02)
 abbrev pub recordLength : ℕ
-recordLength = 4
+recordLength = 8
+
+-- "the old four, then PC before the step and the fetch address, each two bytes, low byte first"
+abbrev pub recordOf : Step → List ℕ
+recordOf o = o .event ++ (twoBytes (o .pc) ++ twoBytes (o .fetch))
 
 -- A run's last state, the count of its steps, and their trace records one after another.
 pub record Ran : Type 0 where
@@ -34,8 +38,8 @@ abbrev pub noStep : State → Ran
 noStep s = record { state = s; count = 0; trace = [] }
 
 -- one step, and what follows it
-abbrev pub after : Outcome → Ran → Ran
-after o r = record { state = r .state; count = suc (r .count); trace = o .trace ++ r .trace }
+abbrev pub after : Step → Ran → Ran
+after o r = record { state = r .state; count = suc (r .count); trace = recordOf o ++ r .trace }
 
 -- A step for each pair, until the machine stops. "A stopped machine stays so": it executes nothing. "The stopping step
 -- has its record".
@@ -63,7 +67,7 @@ stateFits state = eqb (length state) stateLength && wellFormed (loaded state)
 abbrev pub recordingFits : List ℕ → Bool
 recordingFits recording = eqb (length recording % pairLength) 0
 
--- "Trace twice the recording's length? 16": a record for each pair
+-- "Question 16 now wants a trace of four times the recording's length": a record for each pair
 abbrev pub traceFits : List ℕ → List ℕ → Bool
 traceFits recording trace = eqb (length trace) (pairCount recording * recordLength)
 

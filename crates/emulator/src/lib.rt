@@ -1,19 +1,22 @@
 // The run: a step for each pair of a recording, with its trace.
 ghost use mathlib.Core.Path.{_≡_};
-ghost use Prim.Native.Nat.{_≤_};
+ghost use mathlib.Core.List.{[], _∷_};
+ghost use Prim.Native.Nat.{_≤_, _<_};
 ghost use lib.ListN.{length};
 ghost use Rattle.state.specs.State.{stateLength};
 ghost use Rattle.machine.specs.Parts.{whole};
-ghost use Rattle.emulator.specs.Run.{recordLength, ranOver, writtenOver, imageFits, yielded, ended, runResult};
-ghost use Rattle.emulator.specs.Parts.{traceRecordOf, TraceBytes, sequencerOf, lastState, ranTo, laidOver, Accepted};
+ghost use Rattle.emulator.specs.Run.{ranOver, writtenOver, imageFits, traceFits, yielded, ended, runResult};
+ghost use Rattle.emulator.specs.Parts.{halfLength, eventBytes, addressBytes, EventFits, sequencerOf, lastState, ranTo, laidOver, Accepted};
 use machine::Effect;
 use machine::Sequencer;
 use state::State;
 
-// A recording has a left and a right byte for each step, a trace a record of four.
+// A recording has a left and a right byte for each step, a trace a record of eight: what the word does, and where.
 const PAIR: usize = 2;
 
-const RECORD: usize = 4;
+const RECORD: usize = 8;
+
+const HALF: usize = 4;
 
 // What a run answers: a refusal at the door, or the count of trace records and the stop number or 0.
 pub enum RunAnswer {
@@ -40,15 +43,33 @@ fn sequencer(e: Effect) -> Sequencer
     }
 }
 
-// Writes a step's record at the start of a part of the trace.
-fn write_record(part: &mut [u8], e: Effect)
-    requires { ⌜ (recordLength ≤ length (now part)) × TraceBytes e ⌝ }
-    ensures { λ _. ⌜ now (part .exit) ≡ writtenOver (traceRecordOf e) (now (part .entry)) ⌝ }
+// Writes half a record at the start of a part of the trace.
+fn write_half(part: &mut [u8], a: usize, b: usize, c: usize, d: usize)
+    requires { ⌜ (halfLength ≤ length (now part)) × (a < 256) × (b < 256) × (c < 256) × (d < 256) ⌝ }
+    ensures { λ _. ⌜ now (part .exit) ≡ writtenOver (a ∷ b ∷ c ∷ d ∷ []) (now (part .entry)) ⌝ }
 {
-    part[0] = e.kind as u8;
-    part[1] = e.address as u8;
-    part[2] = e.written as u8;
-    part[3] = e.stop as u8;
+    part[0] = a as u8;
+    part[1] = b as u8;
+    part[2] = c as u8;
+    part[3] = d as u8;
+}
+
+// What a step's word does.
+fn write_event(part: &mut [u8], e: Effect)
+    requires { ⌜ (halfLength ≤ length (now part)) × EventFits e ⌝ }
+    ensures { λ _. ⌜ now (part .exit) ≡ writtenOver (eventBytes e) (now (part .entry)) ⌝ }
+{
+    write_half(part, e.kind, e.address, e.written, e.stop);
+}
+
+// PC and the fetch address before a step, the low byte first.
+fn write_addresses(part: &mut [u8], q: Sequencer)
+    requires { ⌜ halfLength ≤ length (now part) ⌝ }
+    ensures { λ _. ⌜ now (part .exit) ≡ writtenOver (addressBytes q) (now (part .entry)) ⌝ }
+{
+    let pc = q.pc;
+    let at = processor::fetch_address(q);
+    write_half(part, pc % 256, pc / 256 % 256, at % 256, at / 256 % 256);
 }
 
 // Steps over the pairs of the recording until the machine stops.
@@ -71,9 +92,10 @@ fn steps(
         let pair = PAIR * count;
         let left = recording[pair];
         let right = recording[pair + 1];
-        let e = processor::step(image, map, left, right, q, values, latches, returns);
         let at = RECORD * count;
-        write_record(&mut trace[at..], e);
+        write_addresses(&mut trace[at + HALF..], q);
+        let e = processor::step(image, map, left, right, q, values, latches, returns);
+        write_event(&mut trace[at..], e);
         count += 1;
         q = sequencer(e);
         if e.stop != 0 {
@@ -150,6 +172,13 @@ pub fn image_fits(image: &[u8]) -> bool
     (image.len() % 2 == 0) & ((2 <= image.len()) & (image.len() <= 16384))
 }
 
+// Has the trace a record for each pair? Four times a recording's length may be no usize.
+fn trace_fits(recording: &[u8], trace: &[u8]) -> bool
+    ensures { λ r. ⌜ r ≡ traceFits (now (recording .entry)) (now (trace .entry)) ⌝ }
+{
+    (trace.len() % RECORD == 0) & (trace.len() / RECORD == recording.len() / PAIR)
+}
+
 // Runs an image under a map, from the state's 36 bytes, over the pairs of a recording, and writes their trace.
 // Yields the count of trace records and the stop number or 0; or a refusal, 11, 12, 14, 15 or 16, and then no byte changes.
 pub fn run(
@@ -177,7 +206,7 @@ pub fn run(
     if recording.len() % PAIR != 0 {
         return RunAnswer::Refused { number: 15 };
     }
-    if trace.len() != recording.len() / PAIR * RECORD {
+    if !trace_fits(recording, trace) {
         return RunAnswer::Refused { number: 16 };
     }
     let stop = s.stop;

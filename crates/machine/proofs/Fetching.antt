@@ -11,7 +11,7 @@ use Rattle.word.specs.declared.Word.the-variants.{Invalid}
 use Rattle.word.specs.Word.{decoded}
 use Rattle.state.specs.declared.State.{State}
 use Rattle.machine.specs.Shape.{Shape, invalid, shapeOf}
-use Rattle.machine.specs.Step.{Outcome, wordCount, wordAt, shapeAt, fetchAddress, cameToStop, wordStep, stepped}
+use Rattle.machine.specs.Step.{Outcome, wordCount, wordAt, shapeAt, fetchAddress, cameToStop, wordStep, stepFrom, stepped}
 
 -- PC is near where the fetch address is
 pub pc-near : (flag pending pc : ℕ) → pick (eqb flag 1) pending pc < 8192 → (flag ≡ 1 → pc < 8192) → pc < 8192
@@ -27,14 +27,14 @@ unfolding shapeOf
 no-shape image a e n = ap shapeOf (sym e ∙ n)
 
 module _ (image map bus : List ℕ) (s : State) (a : ℕ) (ha : a ≡ fetchAddress s) where
-  pub outside : wordCount image ≤ a → cameToStop s 21 ≡ stepped image map bus s
+  pub outside : wordCount image ≤ a → stepFrom s (cameToStop s 21) ≡ stepped image map bus s
   unfolding stepped
   outside h = rw (← ha, le-ltb a (wordCount image) h)
 
-  pub inside : (o : Outcome) (shape : Shape) → a < wordCount image → shape ≡ shapeAt image a → o ≡ wordStep map shape bus s → o ≡ stepped image map bus s
+  pub inside : (o : Outcome) (shape : Shape) → a < wordCount image → shape ≡ shapeAt image a → o ≡ wordStep map shape bus s → stepFrom s o ≡ stepped image map bus s
   unfolding stepped
-  inside o shape h e ho = rw (← ha, lt-ltb a (wordCount image) h, ← e) ho
+  inside o shape h e ho = rw (← ha, lt-ltb a (wordCount image) h, ← e, ho)
 
-  pub nothing : a < wordCount image → shapeAt image a ≡ invalid → cameToStop s 22 ≡ stepped image map bus s
+  pub nothing : a < wordCount image → shapeAt image a ≡ invalid → stepFrom s (cameToStop s 22) ≡ stepped image map bus s
   unfolding stepped
   nothing h e = rw (← ha, lt-ltb a (wordCount image) h, e)

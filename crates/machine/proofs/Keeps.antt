@@ -19,7 +19,7 @@ use Rattle.state.specs.declared.State.{State}
 use Rattle.state.specs.State.{overflowSlot, stackPlaces, EachBelow, Sized, Formed}
 use Rattle.machine.specs.Shape.{Source, register, bank, constant, Target, slot, latch, Control, jump, branch, defer, call, return, Shape, act, go, invalid}
 use Rattle.machine.specs.Step.{wordCount, shapeAt, valueOf, resultOf, withOverflow, putValue, putLatch, inPage, actState, goTo, deferTo, goState, executed}
-use Rattle.machine.specs.Step.{mayRead, mayWrite, mayChoose, mayCall, mayReturn, wordQuestions, fetchAddress, stepQuestions, stopped, Outcome, targetTrace, traceOf, cameToStop, wordStep, stepped}
+use Rattle.machine.specs.Step.{mayRead, mayWrite, mayChoose, mayCall, mayReturn, wordQuestions, fetchAddress, stepQuestions, stopped, Outcome, targetEvent, eventOf, cameToStop, wordStep, Step, stepFrom, stepped}
 use Rattle.machine.specs.Parts.{IsPage}
 use Rattle.machine.proofs.InRange.{SourceInRange, TargetInRange, ControlInRange, ShapeInRange, shape-at-in-range}
 use Rattle.machine.proofs.Fetching.{pc-near}
@@ -289,27 +289,31 @@ stop-sound s number sound low high =
 
 -- ---- a step
 
--- every step has a trace record of four bytes
-target-long : (target : Target) (s : State) → length (targetTrace target s) ≡ 4
+-- four bytes tell what a word does
+target-long : (target : Target) (s : State) → length (targetEvent target s) ≡ 4
 target-long (slot k) s = pick-both (λ (t : List ℕ). length t ≡ 4) (leb 9 k) refl refl
 target-long (latch b p l) s = refl
 
-trace-long : (shape : Shape) (s : State) → length (traceOf shape s) ≡ 4
-trace-long (act source op target) s = target-long target s
-trace-long (go source control) s = refl
-trace-long invalid s = refl
+event-long : (shape : Shape) (s : State) → length (eventOf shape s) ≡ 4
+event-long (act source op target) s = target-long target s
+event-long (go source control) s = refl
+event-long invalid s = refl
 
-pub record-long : (image map bus : List ℕ) (s : State) → length (stepped image map bus s .trace) ≡ 4
+pub step-event-long : (image map bus : List ℕ) (s : State) → length (stepped image map bus s .event) ≡ 4
 unfolding stepped
-record-long image map bus s =
-    asked-holds (λ (o : Outcome). length (o .trace) ≡ 4) (stepQuestions image map bus s) {refuse = cameToStop s}
-    (trace-long (shapeAt image (fetchAddress s)) _) (λ n. refl)
+step-event-long image map bus s =
+    asked-holds (λ (o : Outcome). length (o .event) ≡ 4) (stepQuestions image map bus s) {refuse = cameToStop s}
+    (event-long (shapeAt image (fetchAddress s)) _) (λ n. refl)
 
--- a sound state and a trace record of four bytes
+-- a sound state and four bytes
 pub record SoundOutcome (o : Outcome) : Type 0 where
   pub state : Sound (o .state)
-  pub bytes : EachBelow 256 (o .trace)
-  pub long : length (o .trace) ≡ 4
+  pub bytes : EachBelow 256 (o .event)
+  pub long : length (o .event) ≡ 4
+
+-- what a step's word does
+abbrev pub outcomeOf : Step → Outcome
+outcomeOf o = record { state = o .state; event = o .event }
 
 stopped-outcome : (s : State) (number : ℕ) → Sound s → 21 ≤ number → number ≤ 27 → SoundOutcome (cameToStop s number)
 stopped-outcome s number sound low high =
@@ -319,7 +323,7 @@ stopped-outcome s number sound low high =
       long = refl;
     }
 
-quiet-outcome : (s : State) → Sound s → SoundOutcome (record { state = s; trace = 0 ∷ 0 ∷ 0 ∷ 0 ∷ [] })
+quiet-outcome : (s : State) → Sound s → SoundOutcome (record { state = s; event = 0 ∷ 0 ∷ 0 ∷ 0 ∷ [] })
 quiet-outcome s sound =
     record {
       state = sound;
@@ -327,9 +331,9 @@ quiet-outcome s sound =
       long = refl;
     }
 
-target-outcome : (target : Target) (s : State) → TargetInRange target → Sound s → SoundOutcome (record { state = s; trace = targetTrace target s })
+target-outcome : (target : Target) (s : State) → TargetInRange target → Sound s → SoundOutcome (record { state = s; event = targetEvent target s })
 target-outcome (slot k) s r sound =
-    pick-both (λ (t : List ℕ). SoundOutcome (record { state = s; trace = t })) (leb 9 k)
+    pick-both (λ (t : List ℕ). SoundOutcome (record { state = s; event = t })) (leb 9 k)
     (record {
       state = sound;
       bytes = four-bytes (omega arith) (sound .sized .values k) (omega arith) (omega arith);
@@ -370,7 +374,7 @@ pub fetched-near : (s : State) {words : ℕ} → Formed s → words ≤ 8192 →
 fetched-near s f hw h = pc-near (s .flag) (s .pending) (s .pc) (omega arith) (f .pc)
 
 pub step-sound : (image map bus : List ℕ) (s : State) → wordCount image ≤ 8192 → EachBelow 256 image → EachBelow 256 bus → Sound s
-    → SoundOutcome (stepped image map bus s)
+    → SoundOutcome (outcomeOf (stepped image map bus s))
 unfolding stepped
 step-sound image map bus s hw hi hb sound =
     pick-cases SoundOutcome (ltb (fetchAddress s) (wordCount image))
@@ -380,7 +384,7 @@ step-sound image map bus s hw hi hb sound =
 
 -- where the fetch address is inside the image, a step executes the word there
 pub step-word : (image map bus : List ℕ) (s : State) → fetchAddress s < wordCount image
-    → stepped image map bus s ≡ wordStep map (shapeAt image (fetchAddress s)) bus s
+    → stepped image map bus s ≡ stepFrom s (wordStep map (shapeAt image (fetchAddress s)) bus s)
 unfolding stepped
 step-word image map bus s h = rw (lt-ltb (fetchAddress s) (wordCount image) h)
 

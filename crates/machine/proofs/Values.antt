@@ -10,7 +10,7 @@ use Rattle.word.specs.Word.{decoded}
 use Rattle.map.specs.Map.{inSet}
 use Rattle.state.specs.declared.State.{State}
 use Rattle.machine.specs.Shape.{shapeOf, slotOf}
-use Rattle.machine.specs.Step.{Outcome, resultOf, withOverflow, actState, goState, stepped}
+use Rattle.machine.specs.Step.{Step, resultOf, withOverflow, actState, goState, stepped}
 
 -- a state after reset but for PC, values and latches
 at : ℕ → List ℕ → List ℕ → State
@@ -42,22 +42,22 @@ jumps zero = []
 jumps (suc n) = 0xE3 ∷ 0xFF ∷ jumps n
 
 -- a step with the word at PC
-step-of : ℕ → List ℕ → State → Outcome
+step-of : ℕ → List ℕ → State → Step
 step-of w bus s = stepped (jumps (s .pc) ++ w / 256 ∷ w % 256 ∷ []) open-map bus s
 
 -- AUX and OVF afterwards
-aux : Outcome → ℕ
+aux : Step → ℕ
 aux o = getD (o .state .values) 0 0
 
-overflow : Outcome → ℕ
+overflow : Step → ℕ
 overflow o = getD (o .state .values) 8 0
 
 -- "writes": the left latch, and the trace's kind and data byte
-writes : Outcome → List ℕ
-writes o = getD (o .state .latches) 0 0 ∷ getD (o .trace) 0 0 ∷ getD (o .trace) 2 0 ∷ []
+writes : Step → List ℕ
+writes o = getD (o .state .latches) 0 0 ∷ getD (o .event) 0 0 ∷ getD (o .event) 2 0 ∷ []
 
 -- PC, pending flag and pending address; depth and the oldest return address
-directs : Outcome → List ℕ
+directs : Step → List ℕ
 directs o = o .state .pc ∷ o .state .flag ∷ o .state .pending ∷ o .state .depth ∷ getD (o .state .returns) 0 0 ∷ []
 
 pub starred : List (List ℕ)

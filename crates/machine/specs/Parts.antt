@@ -12,7 +12,7 @@ use Rattle.machine.specs.declared.Sequencer.{Sequencer}
 use Rattle.machine.specs.declared.Effect.{Effect}
 use Rattle.machine.specs.declared.act.Delivery.{Delivery}
 use Rattle.machine.specs.Shape.{Source, constant, Target, Shape, act, sourceOf, targetOf, placesOf}
-use Rattle.machine.specs.Step.{Outcome, resultOf, actState, targetTrace, mayWrite, mayChoose, cameToStop}
+use Rattle.machine.specs.Step.{Outcome, resultOf, actState, targetEvent, mayWrite, mayChoose, cameToStop}
 
 -- the state of a machine that is not stopped, from its sequencer, values, latches and call stack
 abbrev pub whole : Sequencer → List ℕ → List ℕ → List ℕ → State
@@ -28,7 +28,11 @@ whole q values latches returns =
       stop = 0;
     }
 
--- the outcome of a step from what the code leaves
+-- where the next word is fetched
+abbrev pub fetchOf : Sequencer → ℕ
+fetchOf q = pick (eqb (q .flag) 1) (q .pending) (q .pc)
+
+-- the outcome of a word from what the code leaves
 abbrev pub outcome : Effect → List ℕ → List ℕ → List ℕ → Outcome
 outcome e values latches returns =
     record {
@@ -43,7 +47,7 @@ outcome e values latches returns =
             returns = returns;
             stop = e .stop;
           };
-      trace = e .kind ∷ e .address ∷ e .written ∷ e .stop ∷ [];
+      event = e .kind ∷ e .address ∷ e .written ∷ e .stop ∷ [];
     }
 
 -- an act that has gone on to PC + 1
@@ -96,7 +100,7 @@ IsPage page = (page ≡ 256 → ⊥) → page ≡ 32
 abbrev pub delivered : List ℕ → ℕ → ℕ → Target → State → Outcome
 delivered map op x target s =
     asked (ask 24 (mayWrite map target (s .values)) ∷ ask 25 (mayChoose map target (resultOf op (getD (s .values) 0 0) x)) ∷ [])
-    (record { state = actState op x target s; trace = targetTrace target (actState op x target s) })
+    (record { state = actState op x target s; event = targetEvent target (actState op x target s) })
     (cameToStop s)
 
 -- An act as the code holds it: of kind 0 with a register or bank as its source, of kind 1 with XMIT's constant.

@@ -169,41 +169,53 @@ stopped s number =
       stop = number;
     }
 
--- The state after a step, and the step's trace record of four bytes.
+-- What a word leaves: the state, and the four bytes that "The trace" of document 01 tells of it.
 pub record Outcome : Type 0 where
   pub state : State
-  pub trace : List ℕ
+  pub event : List ℕ
 
 -- "The trace": kind (0 nothing, 1 and 2 left and right address chosen, 3 and 4 left and right data written),
 -- the bank's address register afterwards, the data byte, no stop number. s is the state afterwards.
-abbrev pub targetTrace : Target → State → List ℕ
-targetTrace (slot k) s =
+abbrev pub targetEvent : Target → State → List ℕ
+targetEvent (slot k) s =
     pick (leb (addressSlot 0) k) ((k - 8) ∷ getD (s .values) k 0 ∷ 0 ∷ 0 ∷ []) (0 ∷ 0 ∷ 0 ∷ 0 ∷ [])
-targetTrace (latch b p l) s = (3 + b) ∷ getD (s .values) (addressSlot b) 0 ∷ getD (s .latches) b 0 ∷ 0 ∷ []
+targetEvent (latch b p l) s = (3 + b) ∷ getD (s .values) (addressSlot b) 0 ∷ getD (s .latches) b 0 ∷ 0 ∷ []
 
-abbrev pub traceOf : Shape → State → List ℕ
-traceOf (act source op target) s = targetTrace target s
-traceOf (go source control) s = 0 ∷ 0 ∷ 0 ∷ 0 ∷ []
-traceOf invalid s = 0 ∷ 0 ∷ 0 ∷ 0 ∷ []
+abbrev pub eventOf : Shape → State → List ℕ
+eventOf (act source op target) s = targetEvent target s
+eventOf (go source control) s = 0 ∷ 0 ∷ 0 ∷ 0 ∷ []
+eventOf invalid s = 0 ∷ 0 ∷ 0 ∷ 0 ∷ []
 
 -- kind 5 stop
-abbrev pub stopRecord : ℕ → List ℕ
-stopRecord number = 5 ∷ 0 ∷ 0 ∷ number ∷ []
+abbrev pub stopEvent : ℕ → List ℕ
+stopEvent number = 5 ∷ 0 ∷ 0 ∷ number ∷ []
 
 abbrev pub wentOn : Shape → State → Outcome
-wentOn shape s = record { state = s; trace = traceOf shape s }
+wentOn shape s = record { state = s; event = eventOf shape s }
 
 abbrev pub cameToStop : State → ℕ → Outcome
-cameToStop s number = record { state = stopped s number; trace = stopRecord number }
+cameToStop s number = record { state = stopped s number; event = stopEvent number }
 
 -- Execute a word, or stop at its first no.
 abbrev pub wordStep : List ℕ → Shape → List ℕ → State → Outcome
 wordStep map shape bus s =
     asked (wordQuestions map shape bus s) (wentOn shape (executed shape bus s)) (cameToStop s)
 
+-- What a step leaves: what its word does, and two addresses ("Addresses in the trace", 2026-03 of document 02).
+pub record Step : Type 0 where
+  pub state : State
+  pub event : List ℕ
+  pub pc : ℕ
+  pub fetch : ℕ
+
+-- "PC before the step and the fetch address": s is the state before it, whether the step stops or not.
+abbrev pub stepFrom : State → Outcome → Step
+stepFrom s o = record { state = o .state; event = o .event; pc = s .pc; fetch = fetchAddress s }
+
 -- One step of a machine that is not stopped.
-unfoldable pub stepped : List ℕ → List ℕ → List ℕ → State → Outcome
+unfoldable pub stepped : List ℕ → List ℕ → List ℕ → State → Step
 stepped image map bus s =
-    asked (stepQuestions image map bus s)
+    stepFrom s
+    (asked (stepQuestions image map bus s)
     (wentOn (shapeAt image (fetchAddress s)) (executed (shapeAt image (fetchAddress s)) bus s))
-    (cameToStop s)
+    (cameToStop s))

@@ -4,11 +4,9 @@ pub mod form;
 ghost use mathlib.Core.Path.{_≡_};
 ghost use Prim.Native.Nat.{_<_};
 ghost use mathlib.Core.List.{[], _∷_};
-ghost use lib.Dec.{eqb};
-ghost use Rattle.choice.specs.Choice.{pick};
 ghost use Rattle.word.specs.Word.{InRange, decoded};
-ghost use Rattle.machine.specs.Step.{wordCount, wordAt, shapeAt, wordStep, stepped};
-ghost use Rattle.machine.specs.Parts.{whole, outcome, Ready};
+ghost use Rattle.machine.specs.Step.{wordCount, wordAt, shapeAt, wordStep, stepFrom, stepped};
+ghost use Rattle.machine.specs.Parts.{whole, fetchOf, outcome, Ready};
 ghost use Rattle.processor.specs.Forms.{shapeIs, FormFits, Fetches, Runs};
 use crate::form::Form;
 use machine::Effect;
@@ -75,8 +73,9 @@ pub fn fetched_of(word: Word) -> Fetched
     Fetched::Valid(word)
 }
 
-fn fetch_address(q: Sequencer) -> usize
-    ensures { λ r. ⌜ r ≡ pick (eqb (q .flag) 1) (q .pending) (q .pc) ⌝ }
+// Where the next word is fetched.
+pub fn fetch_address(q: Sequencer) -> usize
+    ensures { λ r. ⌜ r ≡ fetchOf q ⌝ }
 {
     let flag = q.flag;
     if flag == 1 { q.pending } else { q.pc }
@@ -95,7 +94,7 @@ pub fn step(
     returns: &mut [u16; 8],
 ) -> Effect
     requires { ⌜ Runs (now image) (now map) q ⌝ }
-    ensures { λ r. ⌜ outcome r (now (values .exit)) (now (latches .exit)) (now (returns .exit)) ≡ stepped (now (image .entry)) (now (map .entry)) (left ∷ right ∷ []) (whole q (now (values .entry)) (now (latches .entry)) (now (returns .entry))) ⌝ }
+    ensures { λ r. ⌜ stepFrom (whole q (now (values .entry)) (now (latches .entry)) (now (returns .entry))) (outcome r (now (values .exit)) (now (latches .exit)) (now (returns .exit))) ≡ stepped (now (image .entry)) (now (map .entry)) (left ∷ right ∷ []) (whole q (now (values .entry)) (now (latches .entry)) (now (returns .entry))) ⌝ }
 {
     let at = fetch_address(q);
     if image.len() / 2 <= at {

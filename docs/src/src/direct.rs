@@ -1,7 +1,7 @@
 //! A direct emulator of the run, for speed: one plain loop over the pairs,
 //! fields taken from the word's bits at each step, no allocation.
 
-use crate::machine::{Image, State};
+use crate::machine::{Image, State, RECORD_BYTES};
 use crate::map::Map;
 use crate::run::RunAnswer;
 
@@ -264,9 +264,11 @@ fn run_pairs(
     trace: &mut [u8],
 ) -> (Core, usize, u8) {
     let mut count = 0;
-    for (pair, out) in recording.chunks_exact(2).zip(trace.chunks_exact_mut(4)) {
+    for (pair, out) in recording.chunks_exact(2).zip(trace.chunks_exact_mut(RECORD_BYTES)) {
+        let addresses = (core.pc | core.fetch << 16) as u32;
+        out[4..].copy_from_slice(&addresses.to_le_bytes());
         let written = core.step(image, map, [pair[0], pair[1]]);
-        out.copy_from_slice(&written.to_le_bytes());
+        out[..4].copy_from_slice(&written.to_le_bytes());
         count += 1;
         if written & 255 == 5 {
             return (core, count, (written >> 24) as u8);
@@ -292,7 +294,7 @@ pub fn run(
     if recording.len() % 2 != 0 {
         return RunAnswer::Refused(15);
     }
-    if trace.len() != 2 * recording.len() {
+    if trace.len() != 4 * recording.len() {
         return RunAnswer::Refused(16);
     }
     if start.stop != 0 {

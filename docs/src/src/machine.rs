@@ -324,16 +324,29 @@ fn execute(state: &mut State, word: Word, bus: [u8; 2]) -> [u8; 4] {
     [kind, address, data, 0]
 }
 
+/// Bytes of a trace record: kind, address, data, stop number; PC before the step
+/// and the fetch address, low byte first.
+pub const RECORD_BYTES: usize = 8;
+
 /// One step with a left and a right byte: the trace record, or nothing where
 /// the machine is stopped already.
-pub fn step(image: &Image, map: &Map, state: &mut State, bus: [u8; 2]) -> Option<[u8; 4]> {
+pub fn step(
+    image: &Image,
+    map: &Map,
+    state: &mut State,
+    bus: [u8; 2],
+) -> Option<[u8; RECORD_BYTES]> {
     if state.stop != 0 {
         return None;
     }
+    let [pc_low, pc_high] = state.pc.to_le_bytes();
+    let [fetch_low, fetch_high] = (state.fetch_address() as u16).to_le_bytes();
     let (stop, word) = questions(image, map, state, bus);
-    if stop != 0 {
+    let [kind, address, data, number] = if stop != 0 {
         state.stop = stop;
-        return Some([5, 0, 0, stop]);
-    }
-    Some(execute(state, word, bus))
+        [5, 0, 0, stop]
+    } else {
+        execute(state, word, bus)
+    };
+    Some([kind, address, data, number, pc_low, pc_high, fetch_low, fetch_high])
 }

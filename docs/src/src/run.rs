@@ -1,6 +1,6 @@
 //! A run over a recording, with its argument checks.
 
-use crate::machine::{step, Image, State};
+use crate::machine::{step, Image, State, RECORD_BYTES};
 use crate::map::Map;
 
 /// What a run answers.
@@ -26,14 +26,14 @@ fn check<'a>(
     if recording.len() % 2 != 0 {
         return Err(15);
     }
-    if trace.len() != 2 * recording.len() {
+    if trace.len() != 4 * recording.len() {
         return Err(16);
     }
     Ok((image, map, state))
 }
 
 /// Runs the image over the recording. The state's bytes become those of the
-/// last state; each step writes its record of 4 bytes to the trace.
+/// last state; each step writes its record to the trace.
 pub fn run(
     image: &[u8],
     map: &[u8],
@@ -46,9 +46,9 @@ pub fn run(
         Err(number) => return RunAnswer::Refused(number),
     };
     let mut count = 0;
-    for (bytes, record) in recording.chunks(2).zip(trace.chunks_mut(4)) {
+    for (bytes, record) in recording.chunks(2).zip(trace.chunks_mut(RECORD_BYTES)) {
         match step(&image, &map, &mut machine, [bytes[0], bytes[1]]) {
-            Some(four) => record.copy_from_slice(&four),
+            Some(written) => record.copy_from_slice(&written),
             None => break,
         }
         count += 1;

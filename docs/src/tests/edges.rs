@@ -16,7 +16,7 @@ fn word(word: Word) -> u16 {
 /// Runs words from a state over pairs of zero bytes.
 fn run_words(words: &[u16], state: State, pairs: usize) -> (State, RunAnswer) {
     let mut bytes = state.to_bytes();
-    let mut trace = vec![0; 4 * pairs];
+    let mut trace = vec![0; 8 * pairs];
     let answer = run(&bytes_of(words), &ALL, &mut bytes, &vec![0; 2 * pairs], &mut trace);
     (State::from_bytes(&bytes).expect("well formed"), answer)
 }
@@ -57,7 +57,7 @@ fn the_page_is_that_of_pc_and_not_of_the_executed_word() {
     words[200] = word(NztBank { s: 0o27, l: 0, i: 3 });
     let mut state = State { pc: 70, ..fresh() };
     let mut bytes = state.to_bytes();
-    let answer = run(&bytes_of(&words), &ALL, &mut bytes, &[9, 0, 9, 0], &mut [0; 8]);
+    let answer = run(&bytes_of(&words), &ALL, &mut bytes, &[9, 0, 9, 0], &mut [0; 16]);
     assert_eq!(answer, RunAnswer::Ran { count: 2, stop: 0 });
     assert_eq!(State::from_bytes(&bytes).unwrap().pc, 67);
     // An XEC executed by XEC takes the page of PC as well.

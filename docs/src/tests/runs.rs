@@ -44,10 +44,11 @@ fn door_questions_in_order() {
     assert_eq!(refusal(16_384, 128, &bad, 1, 1), 14);
     assert_eq!(refusal(2, 128, &good[1..], 1, 1), 14);
     assert_eq!(refusal(2, 128, &good, 1, 1), 15);
-    assert_eq!(refusal(2, 128, &good, 3, 6), 15);
-    assert_eq!(refusal(2, 128, &good, 4, 7), 16);
-    assert_eq!(refusal(2, 128, &good, 4, 16), 16);
-    assert_eq!(refusal(2, 128, &good, 0, 4), 16);
+    assert_eq!(refusal(2, 128, &good, 3, 12), 15);
+    for trace in [0, 8, 15, 17, 24] {
+        assert_eq!(refusal(2, 128, &good, 4, trace), 16);
+    }
+    assert_eq!(refusal(2, 128, &good, 0, 8), 16);
     assert_eq!(refusal(2, 128, &good, 0, 0), 0);
 }
 
@@ -56,10 +57,10 @@ fn a_stopped_state_runs_nothing() {
     for stop in 21..=27 {
         for runner in BOTH {
             let start = State { pc: 3, stop, ..State::default() }.to_bytes();
-            let (mut state, mut trace) = (start, [0xa5; 8]);
+            let (mut state, mut trace) = (start, [0xa5; 16]);
             let answer = runner(&[0xe0, 0], &ALL, &mut state, &[0; 4], &mut trace);
             assert_eq!(answer, RunAnswer::Ran { count: 0, stop });
-            assert_eq!((state, trace), (start, [0xa5; 8]));
+            assert_eq!((state, trace), (start, [0xa5; 16]));
             assert_eq!(
                 runner(&[0xe0, 0], &ALL, &mut state, &[0; 3], &mut trace),
                 RunAnswer::Refused(15)
@@ -71,13 +72,45 @@ fn a_stopped_state_runs_nothing() {
 #[test]
 fn the_stopping_step_is_recorded_and_later_bytes_stay() {
     for runner in BOTH {
-        let (mut state, mut trace) = ([0; 36], [0xa5; 16]);
+        let (mut state, mut trace) = ([0; 36], [0xa5; 32]);
         let image = [0xc7, 5, 0xd7, 0x21, 0, 8, 0, 0];
         let answer = runner(&image, &ALL, &mut state, &[0; 8], &mut trace);
         assert_eq!(answer, RunAnswer::Ran { count: 3, stop: 22 });
-        assert_eq!(trace, [1, 5, 0, 0, 3, 5, 1, 0, 5, 0, 0, 22, 0xa5, 0xa5, 0xa5, 0xa5]);
+        let records =
+            [[1, 5, 0, 0, 0, 0, 0, 0], [3, 5, 1, 0, 1, 0, 1, 0], [5, 0, 0, 22, 2, 0, 2, 0]];
+        assert_eq!(trace, [&records.concat()[..], &[0xa5; 8]].concat()[..]);
         assert_eq!((state[0], state[35]), (2, 22));
     }
+}
+
+/// PC and fetch address of each step, every left byte 1.
+fn addresses(words: &[u16], state: State, pairs: usize) -> Vec<[u16; 2]> {
+    let recording = [1, 0].repeat(pairs);
+    let (answer, _, trace) = compare(&bytes_of(words), &ALL, &state.to_bytes(), &recording);
+    let RunAnswer::Ran { count, .. } = answer else { panic!("refused") };
+    let number = |low: u8, high: u8| u16::from(low) + 256 * u16::from(high);
+    trace.chunks(8).take(count).map(|r| [number(r[4], r[5]), number(r[6], r[7])]).collect()
+}
+
+#[test]
+fn the_trace_tells_pc_and_the_fetch_address() {
+    let start = State::default();
+    // XEC at 2 executes the word at 5, then the jump at 3.
+    let chooser = [0xc705, 0xcf09, 0x9724, 0xe002, 0xdf20, 0xdf21];
+    let told = [[0, 0], [1, 1], [2, 2], [2, 5], [3, 3], [2, 2], [2, 5]];
+    assert_eq!(addresses(&chooser, start, 7), told);
+    // An XEC that an XEC executes leaves PC as well; a jump executed goes on there.
+    let nested = [0x8001, 0x8002, 0xe003, 0xe000];
+    assert_eq!(addresses(&nested, start, 5), [[0, 0], [0, 1], [0, 2], [3, 3], [0, 0]]);
+    // A word that is pending as the run begins.
+    let pending = State { pc: 300, pending: true, pending_address: 3, ..start };
+    assert_eq!(addresses(&nested, pending, 2), [[300, 3], [0, 0]]);
+    // The stopping step has them: outside the code, up to the highest address; at an executed word.
+    let mut high = start;
+    high.registers[0] = 255;
+    assert_eq!(addresses(&[0xa7ff], high, 9), [[0, 0], [65_535, 65_535]]);
+    assert_eq!(addresses(&[0x8007, 0xe000], start, 9), [[0, 0], [0, 7]]);
+    assert_eq!(addresses(&[0x8001, 0x0008], start, 9), [[0, 0], [0, 1]]);
 }
 
 #[test]
@@ -94,7 +127,7 @@ type Outcome = (RunAnswer, [u8; 36], Vec<u8>);
 /// Runs both emulators, which give the same answer, state and trace.
 fn compare(image: &[u8], map: &[u8], state: &[u8; 36], recording: &[u8]) -> Outcome {
     let [result, other] = BOTH.map(|runner| {
-        let (mut after, mut trace) = (*state, vec![0xa5; 2 * recording.len()]);
+        let (mut after, mut trace) = (*state, vec![0xa5; 4 * recording.len()]);
         let answer = runner(image, map, &mut after, recording, &mut trace);
         (answer, after, trace)
     });

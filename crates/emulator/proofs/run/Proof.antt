@@ -55,7 +55,8 @@ returns-5 c =
 
 returns-6 : tie.Need-returns-6
 returns-6 c =
-    let four = c .before .before in
+    let five = c .before .before .before in
+    let four = five .before in
     let l = four .before .before .load .ensures in
     let three = four .before .before .before .before in
     let two = three .before in
@@ -63,11 +64,13 @@ returns-6 c =
     let a = one .before .before .before .before .before .before .before .args in
     refused-16 (now (a .image)) (now (a .map)) (now (a .state)) (now (a .recording)) (now (a .trace)) (sym (one .before .image-fits .ensures) ∙ not-false _ (one .if1 .left))
     (two .if2 .left) (fits (now (a .state)) (three .if3 .left) (sym (four .before .well-formed .ensures ∙ ap wellFormed l) ∙ not-false _ (four .if4 .left)))
-    (c .before .if5 .left) (c .if6 .taken)
+    (five .if5 .left) (sym (c .before .trace-fits .ensures) ∙ not-true _ (c .if6 .taken))
 
 returns-7 : tie.Need-returns-7
 returns-7 c =
-    let four = c .before .before .before in
+    let six = c .before in
+    let five = six .before .before .before in
+    let four = five .before in
     let l = four .before .before .load .ensures in
     let three = four .before .before .before .before in
     let two = three .before in
@@ -76,12 +79,13 @@ returns-7 c =
     ap (λ (s : State). yielded (Ended 0 (s .stop)) (now (a .state)) (now (a .trace))) l
     ∙ came-stopped (now (a .image)) (now (a .map)) (now (a .state)) (now (a .recording)) (now (a .trace)) (sym (one .before .image-fits .ensures) ∙ not-false _ (one .if1 .left))
     (two .if2 .left) (fits (now (a .state)) (three .if3 .left) (sym (four .before .well-formed .ensures ∙ ap wellFormed l) ∙ not-false _ (four .if4 .left)))
-    (c .before .before .if5 .left) (c .before .if6 .left) (three .if3 .left)
+    (five .if5 .left) (sym (six .before .trace-fits .ensures) ∙ not-false _ (six .if6 .left)) (three .if3 .left)
     (λ k. one .before .before .before .before .slice-known .given k .fits) (λ e. c .if7 .taken (ap (λ (s : State). s .stop) l ∙ e))
 
 run-from-requires : tie.Need-run-from-requires
 run-from-requires c κs =
-    let four = c .before .before .before .before .before in
+    let six = c .before .before .before in
+    let four = six .before .before .before .before in
     let l = four .before .before .load .ensures in
     let three = four .before .before .before .before in
     let two = three .before in
@@ -90,7 +94,7 @@ run-from-requires c κs =
       subst (Accepted (now (a .image)) (now (a .map)) (now (a .recording)) (now (a .trace))) (sym l)
           (let-in-sound (now (a .image)) (now (a .map)) (now (a .state)) (now (a .recording)) (now (a .trace)) (sym (one .before .image-fits .ensures) ∙ not-false _ (one .if1 .left))
           (two .if2 .left) (three .if3 .left) (sym (four .before .well-formed .ensures ∙ ap wellFormed l) ∙ not-false _ (four .if4 .left))
-          (λ k. one .before .before .before .before .slice-known .given k .fits) (c .before .before .before .if6 .left)),
+          (λ k. one .before .before .before .before .slice-known .given k .fits) (sym (six .before .trace-fits .ensures) ∙ not-false _ (six .if6 .left))),
       c .before .before .if7 .left,
       three .if3 .left,
     )
@@ -98,7 +102,9 @@ run-from-requires c κs =
 returns-8 : tie.Need-returns-8
 returns-8 c =
     let called = c .before .before .before .before in
-    let four = called .before .before .before .before .before .before in
+    let six = called .before .before .before .before in
+    let five = six .before .before .before in
+    let four = five .before in
     let l = four .before .before .load .ensures in
     let three = four .before .before .before .before in
     let two = three .before in
@@ -106,7 +112,7 @@ returns-8 c =
     let a = one .before .before .before .before .before .before .before .args in
     let-in (now (a .image)) (now (a .map)) (now (a .state)) (now (a .recording)) (now (a .trace)) (sym (one .before .image-fits .ensures) ∙ not-false _ (one .if1 .left))
     (two .if2 .left) (fits (now (a .state)) (three .if3 .left) (sym (four .before .well-formed .ensures ∙ ap wellFormed l) ∙ not-false _ (four .if4 .left)))
-    (called .before .before .before .before .before .if5 .left) (called .before .before .before .before .if6 .left) _
+    (five .if5 .left) (sym (six .before .trace-fits .ensures) ∙ not-false _ (six .if6 .left)) _
     (called .run-from .ensures
     ∙ ap (λ (s : State). ended (now (a .trace)) (ranOver (now (a .image)) (now (a .map)) (now (a .recording)) s)) l)
 
@@ -114,6 +120,6 @@ pub run-spec : {M : Type 1} → statement M
 run-spec =
     tie.close
     (tie.spec (λ c κs. search needs) returns returns-2 returns-3 (λ c κs. search needs) (λ c κs. search needs)
-    (λ c. search needs) returns-4 (λ c. search needs) returns-5 (λ c. search needs) (λ c. search needs)
-    returns-6 (λ c. search needs) returns-7 run-from-requires (λ c. search needs) (λ c. search needs)
-    returns-8)
+    (λ c. search needs) returns-4 (λ c. search needs) returns-5 (λ c κs. search needs) (λ c. search needs)
+    (λ c. search needs) returns-6 (λ c. search needs) (λ c. search needs) returns-7 run-from-requires
+    (λ c. search needs) (λ c. search needs) returns-8)

@@ -1,13 +1,12 @@
 -- `machine::step` meets its contract. Assumes nothing.
 use native.Mathlib.Nat.{lt-of-lt-of-le}
 use lib.ListN.{getD}
-use lib.Dec.{eqb}
 use Prim.Native.Nat.{_*_, _+_, _<_}
-use mathlib.Core.Path.{_∙_, sym, subst}
+use mathlib.Core.Path.{_∙_, sym, ap, subst}
 use mathlib.Core.List.{[], _∷_}
 use denote.Ref.{now}
-use Rattle.choice.specs.Choice.{pick}
-use Rattle.machine.specs.Parts.{whole}
+use Rattle.machine.specs.Step.{stepFrom}
+use Rattle.machine.specs.Parts.{whole, fetchOf}
 use Rattle.processor.specs.Forms.{shapeIs, Fetches}
 use Rattle.machine.proofs.Fetching.{pc-near, no-shape, outside, inside, nothing}
 use Rattle.processor.proofs.Forming.{read-in-range, read-shape}
@@ -18,14 +17,16 @@ use Rattle.processor.proofs.step.Tie as tie
 returns : tie.Need-returns
 returns c =
     let a = c .before .before .before .before .before .args in
-    c .stop .ensures _ _ _ ∙ outside (now (a .image)) (now (a .map)) (a .left ∷ a .right ∷ []) (whole (a .q) (now (a .values)) (now (a .latches)) (now (a .returns))) (c .before .before .fetch-address .result) (c .before .before .fetch-address .ensures) (c .before .if1 .taken)
+    let s = whole (a .q) (now (a .values)) (now (a .latches)) (now (a .returns)) in
+    ap (stepFrom s) (c .stop .ensures _ _ _) ∙ outside (now (a .image)) (now (a .map)) (a .left ∷ a .right ∷ []) s (c .before .before .fetch-address .result) (c .before .before .fetch-address .ensures) (c .before .if1 .taken)
 
 returns-2 : tie.Need-returns-2
 returns-2 c =
     let a = c .before .before .before .before .before .before .before .before .before .before .before .args in
     let fetch = c .before .before .before .before .before .before .before .before .fetch-address in
     let none = subst (Fetches (c .before .before .before .before .decode-bytes .result)) (c .before .enum-told .given .1) (c .before .before .before .fetched-of .ensures) in
-    c .stop2 .ensures _ _ _ ∙ nothing (now (a .image)) (now (a .map)) (a .left ∷ a .right ∷ []) (whole (a .q) (now (a .values)) (now (a .latches)) (now (a .returns))) (fetch .result) (fetch .ensures) (c .before .before .before .before .before .before .before .if1 .left) (no-shape (now (a .image)) (fetch .result) (c .before .before .before .before .decode-bytes .ensures) none)
+    let s = whole (a .q) (now (a .values)) (now (a .latches)) (now (a .returns)) in
+    ap (stepFrom s) (c .stop2 .ensures _ _ _) ∙ nothing (now (a .image)) (now (a .map)) (a .left ∷ a .right ∷ []) s (fetch .result) (fetch .ensures) (c .before .before .before .before .before .before .before .if1 .left) (no-shape (now (a .image)) (fetch .result) (c .before .before .before .before .decode-bytes .ensures) none)
 
 form-of-requires : tie.Need-form-of-requires
 form-of-requires c κs =
@@ -40,7 +41,7 @@ execute-requires c κs =
     let start = c .before .before .before .before .before .before .before .before .before .before .before .before .before .before .before in
     let q = start .args .q in
     let fetch = c .before .before .before .before .before .before .before .before .before .before .before .before .fetch-address in
-    let near : pick (eqb (q .flag) 1) (q .pending) (q .pc) < 8192 = rw (← fetch .ensures) (lt-of-lt-of-le (c .before .before .before .before .before .before .before .before .before .before .before .if1 .left) (start .pre .words)) in (
+    let near : fetchOf q < 8192 = rw (← fetch .ensures) (lt-of-lt-of-le (c .before .before .before .before .before .before .before .before .before .before .before .if1 .left) (start .pre .words)) in (
       record {
         long = start .pre .long;
         near = pc-near (q .flag) (q .pending) (q .pc) near (start .pre .near);

@@ -5,6 +5,7 @@
 
 use riptide_reference::digest::{lcg_bytes, Digest};
 use riptide_reference::direct;
+use riptide_reference::machine::RECORD_BYTES;
 use riptide_reference::programs::{bytes_of, timing_map, timing_words};
 use riptide_reference::run::RunAnswer;
 use std::hint::black_box;
@@ -38,7 +39,7 @@ fn pass(image: &[u8], map: &[u8], recording: &[u8], trace: &mut [u8]) -> (f64, f
 fn main() {
     let (image, map) = (bytes_of(&timing_words()), timing_map());
     let recording = lcg_bytes(1, 2 * PAIRS);
-    let mut trace = vec![0; 4 * PAIRS];
+    let mut trace = vec![0; RECORD_BYTES * PAIRS];
     let mut best = f64::INFINITY;
     for _ in 0..PASSES {
         let (mean, fastest, digest) = pass(&image, &map, &recording, &mut trace);

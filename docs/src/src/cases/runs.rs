@@ -2,7 +2,7 @@
 
 use super::{hex, Bytes, Entry, ALL_ONES, FILLER, RESET};
 use crate::digest::{Digest, Random};
-use crate::machine::State;
+use crate::machine::{State, RECORD_BYTES};
 use crate::programs::*;
 use crate::run::{run, RunAnswer};
 use crate::table::{admit, Verdict};
@@ -36,7 +36,7 @@ pub fn answer_text(answer: RunAnswer) -> String {
 
 impl Case {
     fn new(name: &str, image: Bytes, map: Bytes, state: Bytes, recording: Bytes) -> Case {
-        let trace_bytes = 2 * recording.expand().len();
+        let trace_bytes = 4 * recording.expand().len();
         Case { name: name.to_string(), image, map, state, recording, trace_bytes }
     }
 
@@ -73,6 +73,11 @@ fn pairs(seed: u32, count: usize) -> Bytes {
     Bytes::Lcg { seed, count: 2 * count }
 }
 
+/// Pairs, and the length of their trace.
+fn whole(seed: u32, count: usize) -> (Bytes, usize) {
+    (pairs(seed, count), RECORD_BYTES * count)
+}
+
 /// Runs of one image, each from the state that the last one left.
 fn chain(name: &str, image: Bytes, map: Bytes, lent: &[(Bytes, usize)]) -> Vec<Case> {
     let mut state = RESET;
@@ -89,14 +94,13 @@ fn chain(name: &str, image: Bytes, map: Bytes, lent: &[(Bytes, usize)]) -> Vec<C
 
 /// Long runs of admitted programs; among the first some that are refused.
 fn chains() -> Vec<Case> {
-    let whole = |seed, count| (pairs(seed, count), 4 * count);
     let odd = Bytes::Lcg { seed: 9, count: 7 };
     let timing = [
         whole(1, 32_768),
         whole(2, 32_768),
-        (odd, 14),
-        (pairs(3, 8), 31),
-        (pairs(3, 8), 36),
+        (odd, 28),
+        (pairs(3, 8), 63),
+        (pairs(3, 8), 72),
         whole(3, 0),
         whole(4, 1),
         whole(5, 32_768),
@@ -119,7 +123,7 @@ fn chains() -> Vec<Case> {
 
 /// How many of the steps choose an address or write data.
 fn visible(trace: &[u8]) -> usize {
-    trace.chunks(4).filter(|record| (1..=4).contains(&record[0])).count()
+    trace.chunks(RECORD_BYTES).filter(|record| (1..=4).contains(&record[0])).count()
 }
 
 /// Random programs that are admitted, call, and write often.
@@ -139,7 +143,7 @@ fn admitted() -> Vec<Case> {
         let case = Case::new(&name, Bytes::Hex(image), Bytes::Hex(map.to_vec()), RESET, recording);
         let depths = |count| {
             let mut part = case.clone();
-            (part.recording, part.trace_bytes) = (pairs(cases.len() as u32, count), 4 * count);
+            (part.recording, part.trace_bytes) = whole(cases.len() as u32, count);
             part.outcome().state[18]
         };
         if visible(&case.outcome().trace) > 2_000 && (10..60).any(|count| depths(count) >= 1) {
@@ -210,8 +214,7 @@ fn ends() -> Vec<Case> {
     let executed = State { pending: true, pending_address: 0, ..at(8191) };
     let case =
         |name: &str, word, state| Case::new(name, fill(word), ALL_ONES, state, pairs(70, 12));
-    let mut stopped = case("stopped", 0xe000, from(State { stop: 24, ..at(3) }));
-    stopped.trace_bytes = 48;
+    let stopped = case("stopped", 0xe000, from(State { stop: 24, ..at(3) }));
     let valid = Bytes::Valid { seed: 8, count: 8192 };
     let any = Bytes::Lcg { seed: 9, count: 16_384 };
     let empty = Case::new("empty", fill(0xe000), ALL_ONES, from(at(5)), pairs(1, 0));
@@ -238,12 +241,13 @@ fn doors() -> Vec<Case> {
         ("door-11-odd", 5, 127, 35, 1, 1),
         ("door-11-long", 16_386, 127, 35, 1, 1),
         ("door-12", 2, 127, 35, 1, 1),
-        ("door-12-long", 2, 256, 36, 2, 4),
+        ("door-12-long", 2, 256, 36, 2, 8),
         ("door-14-short", 2, 128, 35, 1, 1),
-        ("door-14-long", 2, 128, 37, 2, 4),
+        ("door-14-long", 2, 128, 37, 2, 8),
         ("door-15", 2, 128, 36, 1, 1),
-        ("door-16-short", 2, 128, 36, 4, 7),
-        ("door-16-long", 2, 128, 36, 4, 16),
+        ("door-16-short", 2, 128, 36, 4, 15),
+        ("door-16-long", 2, 128, 36, 4, 24),
+        ("door-16-twice", 2, 128, 36, 4, 8),
     ];
     let zeros = |count| Bytes::Hex(vec![0; count]);
     let mut cases = Vec::new();

@@ -2,7 +2,7 @@
 //! worked examples that have numbers. State not named is as after reset, and
 //! every map bit is one.
 
-use crate::machine::{step, Image, State};
+use crate::machine::{step, Image, State, RECORD_BYTES};
 use crate::map::Map;
 use crate::programs::assemble;
 use crate::word::{Word, Word::*};
@@ -170,8 +170,8 @@ fn controls() -> Vec<Value> {
     ]
 }
 
-fn told(told: Told, state: &State, record: [u8; 4]) -> String {
-    let [kind, address, data, _] = record;
+fn told(told: Told, state: &State, record: [u8; RECORD_BYTES]) -> String {
+    let [kind, address, data, ..] = record;
     match told {
         Aux => format!("AUX 0x{:02x}", state.registers[AUX]),
         R6 => format!("R6 0x{:02x}", state.registers[6]),

@@ -7,7 +7,8 @@ use riptide_reference::table::{admit, Admission};
 
 pub const ALL: [u8; 128] = [0xff; 128];
 
-/// One step of a word that stands at every address of an image of 8,192.
+/// One step of a word that stands at every address of an image of 8,192: the state
+/// and what the word did. The addresses in the record are those of the state before.
 pub fn one(word: u16, state: State, bus: [u8; 2]) -> (State, [u8; 4]) {
     one_with(&ALL, word, state, bus)
 }
@@ -15,8 +16,11 @@ pub fn one(word: u16, state: State, bus: [u8; 2]) -> (State, [u8; 4]) {
 pub fn one_with(map: &[u8], word: u16, mut state: State, bus: [u8; 2]) -> (State, [u8; 4]) {
     let bytes = word.to_be_bytes().repeat(8192);
     let (image, map) = (Image::new(&bytes).unwrap(), Map::new(map).unwrap());
+    let (pc, fetch) = (state.pc, state.fetch_address() as u16);
     let record = step(&image, &map, &mut state, bus).expect("not stopped");
-    (state, record)
+    assert_eq!(record[4..6], pc.to_le_bytes());
+    assert_eq!(record[6..8], fetch.to_le_bytes());
+    (state, record[..4].try_into().unwrap())
 }
 
 /// The state after reset.

@@ -1,11 +1,11 @@
--- `emulator::write_record` meets its contract. Assumes nothing.
+-- `emulator::write_half` meets its contract. Assumes nothing.
 use denote.Ref.{now}
 use native.Mathlib.Omega.{arith}
 use lib.ListN.{length-set}
 use Rattle.emulator.proofs.Written.{four-stores}
 use borrow.Author.Needs.{needs}
-use Rattle.emulator.proofs.write_record.Statement.{statement}
-use Rattle.emulator.proofs.write_record.Tie as tie
+use Rattle.emulator.proofs.write_half.Statement.{statement}
+use Rattle.emulator.proofs.write_half.Tie as tie
 
 slice-write-part-2 : tie.Need-slice-write-part-2
 slice-write-part-2 c = simp length-set (omega arith)
@@ -15,11 +15,11 @@ slice-write-part-3 c = simp length-set (omega arith)
 
 returns : tie.Need-returns
 returns c =
-    let a = c .before .before .before .before .args in
-    four-stores (now (a .part)) (a .e .kind) (a .e .address) (a .e .written) (a .e .stop) (omega arith)
+    let a = c .args in
+    four-stores (now (a .part)) (a .a) (a .b) (a .c) (a .d) (omega arith)
 
-pub write-record-spec : {M : Type 1} → statement M
-write-record-spec =
+pub write-half-spec : {M : Type 1} → statement M
+write-half-spec =
     tie.close
     (tie.spec (λ c. search needs) (λ c. search needs) (λ c. search needs) slice-write-part-2
     (λ c. search needs) slice-write-part-3 (λ c. search needs) (λ c. search needs) (λ c. search needs)
