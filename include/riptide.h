@@ -25,8 +25,8 @@ extern "C" {
 #endif
 
 /* 10,000 times the first part, 100 times the second, and the third. */
-#define RIPTIDE_VERSION 10100
-#define RIPTIDE_VERSION_TEXT "1.1.0"
+#define RIPTIDE_VERSION 20000
+#define RIPTIDE_VERSION_TEXT "2.0.0"
 
 /* Lengths. An image has an even count of bytes, 2 at least. */
 #define RIPTIDE_WORD_BYTES 2
@@ -36,7 +36,7 @@ extern "C" {
 #define RIPTIDE_SET_BYTES 32 /* each of a map's four sets */
 #define RIPTIDE_STATE_BYTES 36
 #define RIPTIDE_PAIR_BYTES 2 /* a recording, for each step */
-#define RIPTIDE_TRACE_RECORD_BYTES 4 /* a trace, for each step */
+#define RIPTIDE_TRACE_RECORD_BYTES 8 /* a trace, for each step */
 #define RIPTIDE_TABLE_RECORD_BYTES 16 /* a table of facts, for each cell */
 #define RIPTIDE_TABLE_WORD_BYTES 144 /* and for each word: one record for each depth, 0 to 8 */
 #define RIPTIDE_TABLE_BYTES(image_length) ((size_t)(image_length) / RIPTIDE_WORD_BYTES * RIPTIDE_TABLE_WORD_BYTES)
@@ -80,7 +80,7 @@ static inline const char *riptide_text(unsigned number)
     case RIPTIDE_REFUSED_TABLE: return "the table is not 144 bytes for each word";
     case RIPTIDE_REFUSED_STATE: return "the state is not 36 bytes or not well formed";
     case RIPTIDE_REFUSED_RECORDING: return "the recording is of odd length";
-    case RIPTIDE_REFUSED_TRACE: return "the trace is not twice as long as the recording";
+    case RIPTIDE_REFUSED_TRACE: return "the trace is not four times as long as the recording";
     case RIPTIDE_REFUSED_INPUT: return "the bench's input is longer than 928 bytes";
     case RIPTIDE_OUTSIDE_CODE: return "goes on, or would return, outside the code";
     case RIPTIDE_INVALID_WORD: return "an invalid word";
@@ -141,6 +141,11 @@ uint64_t riptide_run(const uint8_t *image, size_t image_length, const uint8_t *m
                      size_t trace_length);
 
 #define RIPTIDE_COUNT(n) ((n) >> 8)
+
+/* In a trace record, of which `record` is the first byte: PC before the step, and where its word was fetched, which is
+ * another address than PC only if an XEC was pending. */
+#define RIPTIDE_TRACE_PC(record) ((record)[4] + 256u * (record)[5])
+#define RIPTIDE_TRACE_FETCH(record) ((record)[6] + 256u * (record)[7])
 
 #ifdef __cplusplus
 }

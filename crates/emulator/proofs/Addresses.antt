@@ -74,44 +74,39 @@ step-left image map bus s =
 
 -- ---- the record's bytes
 
+-- a number past the front of a list
+past : (front rest : List ℕ) (n k : ℕ) → length front ≡ n → numberAt (front ++ rest) (n + k) ≡ numberAt rest k
+past front rest n k long = ap₂ (λ (x y : ℕ). x + 256 * y) (byte k) (ap (λ (j : ℕ). getD (front ++ rest) j 0) next ∙ byte (suc k))
+  where
+    next : suc (n + k) ≡ n + suc k
+    next = omega arith
+
+    byte : (k : ℕ) → getD (front ++ rest) (n + k) 0 ≡ getD rest k 0
+    byte k = ap (λ (j : ℕ). getD (front ++ rest) (j + k) 0) (sym long) ∙ getD-append-add front rest k 0
+
 module _ (o : Step) (rest : List ℕ) (long : length (o .event) ≡ halfLength) where
   abbrev bytes : List ℕ
   bytes = twoBytes (o .pc) ++ twoBytes (o .fetch)
 
-  -- the number at place 4 + n of a record is that at place n of its addresses
-  second-half : (n : ℕ) → numberAt (recordOf o ++ rest) (halfLength + n) ≡ numberAt (bytes ++ rest) n
-  second-half n = ap₂ (λ (x y : ℕ). x + 256 * y) (byte n) (ap (λ (k : ℕ). getD (recordOf o ++ rest) k 0) next ∙ byte (suc n))
-    where
-      next : suc (halfLength + n) ≡ halfLength + suc n
-      next = omega arith
+  -- the addresses of the first record
+  past-event : (k : ℕ) → numberAt (recordOf o ++ rest) (halfLength + k) ≡ numberAt (bytes ++ rest) k
+  past-event k =
+      ap (λ (l : List ℕ). numberAt l (halfLength + k)) (append-assoc (o .event) bytes rest)
+      ∙ past (o .event) (bytes ++ rest) halfLength k long
 
-      byte : (n : ℕ) → getD (recordOf o ++ rest) (halfLength + n) 0 ≡ getD (bytes ++ rest) n 0
-      byte n =
-          ap₂ (λ (l : List ℕ) (k : ℕ). getD l k 0) (append-assoc (o .event) bytes rest) (ap (λ (k : ℕ). k + n) (sym long))
-          ∙ getD-append-add (o .event) (bytes ++ rest) n 0
-
-  -- the first record
   pc-first : o .pc < 65536 → pcIn (recordOf o ++ rest) 0 ≡ o .pc
-  pc-first h = second-half 0 ∙ two-bytes (o .pc) h
+  pc-first h = past-event 0 ∙ two-bytes (o .pc) h
 
   fetch-first : o .fetch < 65536 → fetchIn (recordOf o ++ rest) 0 ≡ o .fetch
-  fetch-first h = second-half 2 ∙ two-bytes (o .fetch) h
+  fetch-first h = past-event 2 ∙ two-bytes (o .fetch) h
 
-  -- the records behind it
+  -- and of the records behind it
   behind : (i k : ℕ) → numberAt (recordOf o ++ rest) (recordLength * suc i + k) ≡ numberAt rest (recordLength * i + k)
   behind i k =
-      ap₂ (λ (x y : ℕ). x + 256 * y) (ap (λ (n : ℕ). getD (recordOf o ++ rest) n 0) here ∙ byte (recordLength * i + k))
-      (ap (λ (n : ℕ). getD (recordOf o ++ rest) n 0) next ∙ byte (suc (recordLength * i + k)))
+      ap (numberAt (recordOf o ++ rest)) place ∙ past (recordOf o) rest recordLength (recordLength * i + k) (record-long o long)
     where
-      here : recordLength * suc i + k ≡ recordLength + (recordLength * i + k)
-      here = omega arith
-
-      next : suc (recordLength * suc i + k) ≡ recordLength + suc (recordLength * i + k)
-      next = omega arith
-
-      byte : (n : ℕ) → getD (recordOf o ++ rest) (recordLength + n) 0 ≡ getD rest n 0
-      byte n =
-          ap (λ (k : ℕ). getD (recordOf o ++ rest) (k + n) 0) (sym (record-long o long)) ∙ getD-append-add (recordOf o) rest n 0
+      place : recordLength * suc i + k ≡ recordLength + (recordLength * i + k)
+      place = omega arith
 
 -- ---- the run
 

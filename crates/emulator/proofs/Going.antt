@@ -9,7 +9,7 @@ use borrow.Author.Tests.{eq-eqb, ne-eqb}
 use lib.ListN.{length, getD, take, drop, length-append, take-append-drop}
 use lib.Seq.{drop-cons, drop-drop, length-take-le}
 use Rattle.state.specs.declared.State.{State}
-use Rattle.state.specs.State.{twoBytes, EachBelow}
+use Rattle.state.specs.State.{EachBelow}
 use Rattle.machine.specs.declared.Sequencer.{Sequencer}
 use Rattle.machine.specs.declared.Effect.{Effect}
 use Rattle.machine.specs.Parts.{whole, outcome}
@@ -171,35 +171,35 @@ module _ (image map recording start : List ℕ) (s₀ : State) where
 -- i steps on the way, and another pair
 module _ {image map recording start : List ℕ} {s₀ : State} {i : ℕ} {trace : List ℕ} (q : Sequencer) (v l r : List ℕ)
     (door : Accepted image map recording start s₀) (g : Going image map recording start s₀ i (whole q v l r) trace) (h : i < pairCount recording) where
+  -- the place of the record
   abbrev at : ℕ
   at = recordLength * i
 
-  -- the places of the addresses in the trace, and of what the word does
-  abbrev behind : ℕ
-  behind = at + halfLength
+  -- the place of the record's second half, the addresses
+  abbrev second : ℕ
+  second = at + halfLength
 
   fits : at + recordLength ≤ length trace
   fits = omega (arith, g .same, door .room)
 
   -- there is room for the addresses
-  pub room-behind : halfLength ≤ length (take (length trace - (recordLength * i + halfLength)) (drop (recordLength * i + halfLength) trace))
-  room-behind = room-from behind halfLength trace (omega (arith, fits))
+  pub room-second : halfLength ≤ length (take (length trace - second) (drop second trace))
+  room-second = room-from second halfLength trace (omega (arith, fits))
 
   -- the trace with the part back in which they were written
-  module _ {half : List ℕ}
-      (addresses : half ≡ writtenOver (addressBytes q) (take (length trace - (recordLength * i + halfLength)) (drop (recordLength * i + halfLength) trace))) where
+  module _ {half : List ℕ} (addresses : half ≡ writtenOver (addressBytes q) (take (length trace - second) (drop second trace))) where
     abbrev located : List ℕ
-    located = putMid behind (length trace - behind) trace half
+    located = putMid second (length trace - second) trace half
 
-    halfway : located ≡ written behind trace (addressBytes q)
-    halfway = part-written behind trace half (addressBytes q) addresses
+    halfway : located ≡ written second trace (addressBytes q)
+    halfway = part-written second trace half (addressBytes q) addresses
 
     -- there is room for what the word does
-    pub room-before : halfLength ≤ length (take (length located - recordLength * i) (drop (recordLength * i) located))
-    room-before = room-from at halfLength located (omega (arith, fits, same))
+    pub room-first : halfLength ≤ length (take (length located - at) (drop at located))
+    room-first = room-from at halfLength located (omega (arith, fits, same))
       where
         same : length located ≡ length trace
-        same = ap length halfway ∙ written-length behind halfLength trace (addressBytes q) refl (omega (arith, fits))
+        same = ap length halfway ∙ written-length second halfLength trace (addressBytes q) refl (omega (arith, fits))
 
     -- the step
     module _ (e : Effect) (v′ l′ r′ : List ℕ) (bytes : EachBelow 256 image) (pairs : EachBelow 256 recording)
@@ -215,7 +215,7 @@ module _ {image map recording start : List ℕ} {s₀ : State} {i : ℕ} {trace 
           record { kind = sound .bytes 0; address = sound .bytes 1; written = sound .bytes 2; stop = sound .bytes 3 }
 
       -- and the part back in which was written what its word does
-      module _ {part : List ℕ} (event : part ≡ writtenOver (eventBytes e) (take (length located - recordLength * i) (drop (recordLength * i) located))) where
+      module _ {part : List ℕ} (event : part ≡ writtenOver (eventBytes e) (take (length located - at) (drop at located))) where
         abbrev back : List ℕ
         back = putMid at (length located - at) located part
 

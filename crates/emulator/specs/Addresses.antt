@@ -34,7 +34,7 @@ abbrev pub Pending : List ℕ → State → List ℕ → ℕ → Type 0
 Pending image s trace zero = s .flag ≡ 1
 Pending image s trace (suc i) = IsXec (shapeAt image (fetchIn trace i))
 
--- "PC before the step and the fetch address [...] differ only if an XEC was pending."
+-- What the record of step i tells. Of the two addresses: "They differ only if an XEC was pending."
 pub record Told (image map recording trace : List ℕ) (s : State) (i : ℕ) : Type 0 where
   pub pc : pcIn trace i ≡ stateBefore image map recording s i .pc
   pub fetch : fetchIn trace i ≡ fetchAddress (stateBefore image map recording s i)

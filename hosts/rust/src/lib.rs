@@ -12,10 +12,17 @@ struct Using;
 pub const MAP_BYTES: usize = 128;
 /// The length of a state.
 pub const STATE_BYTES: usize = 36;
+/// The length of a trace's record of one step.
+pub const TRACE_RECORD_BYTES: usize = 8;
 
 /// How many bytes the table of facts of an image has.
 pub fn table_length(image: &[u8]) -> usize {
     image.len() / 2 * 144
+}
+
+/// How many bytes the trace of a recording has.
+pub fn trace_length(recording: &[u8]) -> usize {
+    recording.len() / 2 * TRACE_RECORD_BYTES
 }
 
 /// What a number says, in a few words: a refusal 11 to 18, or a stop or finding 21 to 29.
@@ -27,7 +34,7 @@ pub fn text(number: u8) -> &'static str {
         13 => "the table is not 144 bytes for each word",
         14 => "the state is not 36 bytes or not well formed",
         15 => "the recording is of odd length",
-        16 => "the trace is not twice as long as the recording",
+        16 => "the trace is not four times as long as the recording",
         18 => "the bench's input is longer than 928 bytes",
         21 => "goes on, or would return, outside the code",
         22 => "an invalid word",
@@ -196,4 +203,51 @@ pub fn run(image: &[u8], map: &[u8], state: &mut [u8], recording: &[u8], trace: 
         (0, number @ 11..=16) => RunAnswer::Refused(Refusal(number)),
         (count, stop) => RunAnswer::Ended { count, stop },
     }
+}
+
+/// A step's record in a trace.
+#[derive(Clone, Copy, Debug, PartialEq, Eq)]
+pub struct TraceRecord {
+    /// 0 nothing on the bus, 1 and 2 left and right address chosen, 3 and 4 left and right data written, 5 stop.
+    pub kind: u8,
+    /// Kinds 1 to 4: the bank's address afterwards; else 0.
+    pub address: u8,
+    /// Kinds 3 and 4: the byte written; else 0.
+    pub data: u8,
+    /// Kind 5: the stop number; else 0.
+    pub stop: u8,
+    /// PC before the step.
+    pub pc: u16,
+    /// Where the step's word was fetched: another address than PC only if an XEC was pending.
+    pub fetch: u16,
+}
+
+impl fmt::Display for TraceRecord {
+    fn fmt(&self, f: &mut fmt::Formatter) -> fmt::Result {
+        let TraceRecord { kind, address, data, stop, pc, fetch } = *self;
+        write!(f, "PC {pc}")?;
+        if fetch != pc {
+            write!(f, ", word at {fetch}")?;
+        }
+        let bank = if kind % 2 == 1 { "left" } else { "right" };
+        match kind {
+            0 => f.write_str(": nothing"),
+            1 | 2 => write!(f, ": {bank} address {address} chosen"),
+            3 | 4 => write!(f, ": {data:02X} written at {bank} {address}"),
+            5 => write!(f, ": stop {stop}, {}", text(stop)),
+            _ => write!(f, ": no kind {kind}"),
+        }
+    }
+}
+
+/// The records of a trace, one for each step. A run has written as many as its answer counts; take no more.
+pub fn records(trace: &[u8]) -> impl ExactSizeIterator<Item = TraceRecord> + '_ {
+    trace.chunks_exact(TRACE_RECORD_BYTES).map(|record| TraceRecord {
+        kind: record[0],
+        address: record[1],
+        data: record[2],
+        stop: record[3],
+        pc: u16::from_le_bytes([record[4], record[5]]),
+        fetch: u16::from_le_bytes([record[6], record[7]]),
+    })
 }

@@ -1,8 +1,8 @@
 //! The library against the independent reference: random images, maps, states, recordings and tables, valid and damaged.
 //! `RIPTIDE_CASES` sets how many cases are run (default 20,000).
 
-use riptide::{admit, count_sets, read_word, reset, run, table_length, write_word};
-use riptide::{AdmitAnswer, Fields, Refusal, RunAnswer};
+use riptide::{admit, count_sets, read_word, records, reset, run, table_length, trace_length, write_word};
+use riptide::{AdmitAnswer, Fields, Refusal, RunAnswer, TraceRecord};
 use riptide_reference::digest::Random;
 use riptide_reference::programs::{bytes_of, damage, random_map, random_program, random_state, random_words, with_return_bytes};
 use riptide_reference::run as reference;
@@ -43,20 +43,21 @@ fn image(random: &mut Random) -> Vec<u8> {
 #[test]
 fn equal_to_the_reference() {
     let mut random = Random(0x5eed);
-    let (mut stopped, mut refused) = (0, 0);
+    let (mut stopped, mut refused, mut apart) = (0, 0, 0);
     for case in 0..cases() {
         let mut image = image(&mut random);
         let mut map = if random.chance(50) { random_map(&mut random).to_vec() } else { vec![255; 128] };
         let mut state = random_state(&mut random, image.len() / 2).to_bytes().to_vec();
         let pairs = random.below(200);
         let mut recording = random_bytes(&mut random, 2 * pairs);
-        let mut trace = random_bytes(&mut random, 4 * pairs);
+        let mut trace = random_bytes(&mut random, trace_length(&recording));
         if random.chance(10) {
-            match random.below(5) {
+            match random.below(6) {
                 0 => image.truncate(random.below(image.len() + 1)),
                 1 => map.truncate(random.below(129)),
                 2 => state.truncate(random.below(37)),
                 3 => recording.truncate(random.below(recording.len() + 1)),
+                4 => trace.truncate(trace.len() / 2),
                 _ => trace.truncate(random.below(trace.len() + 1)),
             }
         }
@@ -64,7 +65,7 @@ fn equal_to_the_reference() {
             let at = random.below(state.len());
             state[at] = random.below(256) as u8;
         }
-        let (mut state2, mut trace2) = (state.clone(), trace.clone());
+        let (mut state2, mut trace2, before) = (state.clone(), trace.clone(), state.clone());
         let ours = run(&image, &map, &mut state, &recording, &mut trace);
         let theirs = reference::run(&image, &map, &mut state2, &recording, &mut trace2);
         assert_eq!(told(ours), theirs, "case {case}");
@@ -72,11 +73,27 @@ fn equal_to_the_reference() {
         assert_eq!(trace, trace2, "trace of case {case}");
         match ours {
             RunAnswer::Refused(_) => refused += 1,
-            RunAnswer::Ended { stop, .. } if stop != 0 => stopped += 1,
-            _ => (),
+            RunAnswer::Ended { count, stop } => {
+                stopped += usize::from(stop != 0);
+                apart += addresses_apart(&image, &before, records(&trace).take(count as usize));
+            }
         }
     }
-    println!("{} cases, {stopped} stopped, {refused} refused", cases());
+    println!("{} cases, {stopped} stopped, {refused} refused, {apart} steps through an XEC", cases());
+}
+
+/// How many records have a fetch address that is not PC. Each is that of a word that an XEC chose: the step before was
+/// an XEC, or the state came with one pending.
+fn addresses_apart(image: &[u8], before: &[u8], records: impl Iterator<Item = TraceRecord>) -> usize {
+    let mut pending = before[2] == 1;
+    let mut apart = 0;
+    for record in records {
+        assert!(pending || record.fetch == record.pc, "{record}");
+        apart += usize::from(record.fetch != record.pc);
+        let word = image.chunks_exact(2).nth(record.fetch.into()).map(|word| u16::from_be_bytes([word[0], word[1]]));
+        pending = word.is_some_and(|word| read_word(word).is_ok_and(|fields| fields.opcode == 4));
+    }
+    apart
 }
 
 fn told_verdict(answer: AdmitAnswer) -> Verdict {

@@ -1,7 +1,7 @@
 //! The examples in C and for the shell, compiled and run: what they print is what the guide and the samples say. Those in
 //! Rust are run as documentation of the crate. And the header: as C and as C++, with the numbers and texts of the crate.
 
-use riptide::{admit, table_length, text, AdmitAnswer, MAP_BYTES, STATE_BYTES};
+use riptide::{admit, records, table_length, text, AdmitAnswer, MAP_BYTES, STATE_BYTES, TRACE_RECORD_BYTES};
 use riptide_reference::programs::{bytes_of, map_of};
 use std::fs;
 use std::path::{Path, PathBuf};
@@ -103,7 +103,7 @@ fn the_station_in_c() {
         let input = fs::File::open(root().join(name)).expect(name);
         output(&mut Command::new(&program), input.into())
     };
-    for admitted in ["samples/indicator.bin", "samples/routine.bin"] {
+    for admitted in ["samples/indicator.bin", "samples/routine.bin", "samples/chooser.bin"] {
         assert_eq!(station(admitted), "admitted, left 1 0 right 0 1\nran 1000 steps, stop 0\n", "{admitted}");
     }
     assert_eq!(
@@ -135,12 +135,14 @@ int main(void)
         RIPTIDE_REFUSED_RECORDING, RIPTIDE_REFUSED_TRACE, RIPTIDE_REFUSED_INPUT, RIPTIDE_OUTSIDE_CODE,
         RIPTIDE_INVALID_WORD, RIPTIDE_NOT_READABLE, RIPTIDE_NOT_WRITABLE, RIPTIDE_NOT_LISTED, RIPTIDE_STACK_FULL,
         RIPTIDE_STACK_EMPTY, RIPTIDE_NOT_KNOWN, RIPTIDE_XEC_OF_XEC};
+    const uint8_t record[RIPTIDE_TRACE_RECORD_BYTES] = {0, 0, 0, 0, 0x34, 0x12, 0xff, 0xfe};
     size_t i;
     unsigned number;
     puts(RIPTIDE_VERSION_TEXT);
     for (i = 0; i < sizeof lengths / sizeof lengths[0]; i++)
         printf("%u ", lengths[i]);
     printf("%lu\n", (unsigned long)RIPTIDE_TABLE_BYTES(7));
+    printf("%u %u\n", RIPTIDE_TRACE_PC(record), RIPTIDE_TRACE_FETCH(record));
     for (number = 0; number < 256; number++)
         printf("%u %d %s\n", number, riptide_is_refusal(number), riptide_text(number));
     return (int)RIPTIDE_NUMBER(riptide_read_word(0));
@@ -149,10 +151,12 @@ int main(void)
 
 #[test]
 fn the_header_in_c_and_cpp() {
-    let mut expected = format!("{}\n10100 ", env!("CARGO_PKG_VERSION"));
-    expected += &format!("{MAP_BYTES} {MAP_BYTES} {STATE_BYTES} 16384 16384 144 144 2 4 ");
+    let mut expected = format!("{}\n20000 ", env!("CARGO_PKG_VERSION"));
+    expected += &format!("{MAP_BYTES} {MAP_BYTES} {STATE_BYTES} 16384 16384 144 144 2 {TRACE_RECORD_BYTES} ");
     expected += "11 12 13 14 15 16 18 21 22 23 24 25 26 27 28 29 ";
     expected += &format!("{}\n", table_length(&[0; 7]));
+    let record = records(&[0, 0, 0, 0, 0x34, 0x12, 0xff, 0xfe]).next().expect("a record");
+    expected += &format!("{} {}\n", record.pc, record.fetch);
     for number in 0..=255 {
         let refusal = u8::from((11..=18).contains(&number));
         expected += &format!("{number} {refusal} {}\n", text(number));
@@ -161,6 +165,19 @@ fn the_header_in_c_and_cpp() {
         let program = compiled(compiler, &source(name, HEADER));
         assert_eq!(output(&mut Command::new(program), Stdio::null()), expected);
     }
+}
+
+#[test]
+fn records_in_words() {
+    let left = [3, 5, 0xab, 0, 7, 0, 7, 0];
+    let stop = [5, 0, 0, 21, 0xff, 0xff, 0xff, 0xff];
+    let unwritten = [9, 0, 0, 0, 1, 0, 2, 0];
+    let trace = [left, stop, unwritten].concat();
+    let told: Vec<String> = records(&trace).map(|record| record.to_string()).collect();
+    assert_eq!(told[0], "PC 7: AB written at left 5");
+    assert_eq!(told[1], format!("PC 65535: stop 21, {}", text(21)));
+    assert_eq!(told[2], "PC 1, word at 2: no kind 9");
+    assert_eq!((told.len(), records(&trace[1..]).len()), (3, 2));
 }
 
 /// The example that the guide has for each finding: words, the map's sets if not all ones, and the cell.

@@ -1,7 +1,7 @@
 //! Steps per second of the library beside the direct Rust emulator, over the same 32,768 pairs, repeated; and seconds of
 //! admission for the images of 8,192 words that `docs/RATES.md` names, where it is said how these are run.
 
-use riptide::{admit, run, table_length, AdmitAnswer, RunAnswer};
+use riptide::{admit, run, table_length, AdmitAnswer, RunAnswer, TRACE_RECORD_BYTES};
 use riptide_reference::digest::{lcg_bytes, Digest};
 use riptide_reference::direct;
 use riptide_reference::programs::{bytes_of, timing_map, timing_words};
@@ -12,7 +12,7 @@ const RUNS: usize = 400;
 
 /// The fastest and the mean time of a step, and a digest of the last state and trace.
 fn timed(mut once: impl FnMut(&mut [u8], &mut [u8])) -> (f64, f64, u64) {
-    let (mut state, mut trace) = ([0; 36], vec![0; 4 * PAIRS]);
+    let (mut state, mut trace) = ([0; 36], vec![0; TRACE_RECORD_BYTES * PAIRS]);
     let (mut fastest, mut total) = (f64::INFINITY, 0.0);
     for _ in 0..RUNS {
         let started = Instant::now();

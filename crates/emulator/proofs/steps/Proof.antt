@@ -7,7 +7,7 @@ use denote.Ref.{now}
 use lib.ListN.{drop, length-drop}
 use Rattle.machine.specs.Parts.{whole}
 use Rattle.emulator.specs.Run.{pairLength, pairCount}
-use Rattle.emulator.proofs.Going.{Going, begins, ends, ran-none, room-behind, room-before, event-fits, as-long, again, stops}
+use Rattle.emulator.proofs.Going.{Going, begins, ends, ran-none, room-second, room-first, event-fits, as-long, again, stops}
 use Rattle.emulator.proofs.steps.Statement.{statement}
 use Rattle.emulator.proofs.steps.Tie as tie
 
@@ -29,7 +29,7 @@ write-addresses-requires c κs =
     let test = c .before .before .before in
     let p = test .before .loop in
     let s = test .before .before .before .before .before .before in
-    room-behind (p .q) (p .values) (p .latches) (p .returns) (s .pre) (p .inv) (test .loop-test .taken)
+    room-second (p .q) (p .values) (p .latches) (p .returns) (s .pre) (p .inv) (test .loop-test .taken)
 
 step-requires : tie.Need-step-requires Inv-loop μ-loop
 step-requires c κs =
@@ -44,7 +44,7 @@ write-event-requires c κs =
     let test = w .before .before .before .before in
     let p = test .before .loop in
     let s = test .before .before .before .before .before .before in (
-      room-before (p .q) (p .values) (p .latches) (p .returns) (s .pre) (p .inv) (test .loop-test .taken) (w .write-addresses .ensures),
+      room-first (p .q) (p .values) (p .latches) (p .returns) (s .pre) (p .inv) (test .loop-test .taken) (w .write-addresses .ensures),
       event-fits (p .q) (p .values) (p .latches) (p .returns) (s .pre) (p .inv) (test .loop-test .taken) (w .write-addresses .ensures)
           (o .step .result) _ _ _ (λ k. test .before .before .before .before .before .shared-slice-known .given k .fits) (λ k. test .before .before .before .shared-slice-known3 .given k .fits)
           (o .step .ensures),
