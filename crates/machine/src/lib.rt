@@ -17,7 +17,7 @@ pub struct Sequencer {
     pub depth: usize,
 }
 
-// What a step leaves: the sequencer, and the trace record (kind, address, data written, stop number).
+// What a word leaves: the sequencer, and what the trace tells of it (kind, address, data written, stop number).
 pub struct Effect {
     pub pc: usize,
     pub flag: usize,
