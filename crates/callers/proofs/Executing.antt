@@ -20,28 +20,28 @@ use Rattle.callers.proofs.Words.{asked-is-no-xec}
 
 -- ---- values of a source
 
-pub unknown-values : (facts : List ℕ) (s l f : ℕ) → s < 16 → f ≡ sourceFact (sourceOf s 0 l) facts → f ≡ unknown
-    → record { low = 0; count = 256 } ≡ spanOf (sourceOf s 0 l) facts
+pub unknown-values : (facts : List ℕ) (s l f : ℕ) → s < 16 → f ≡ sourceFact (sourceOf s 0 0 l) facts → f ≡ unknown
+    → record { low = 0; count = 256 } ≡ spanOf (sourceOf s 0 0 l) facts
 unknown-values facts s l f h e u =
     let low = lt-leb 16 s h in
-    let fact : sourceFact (sourceOf s 0 l) facts ≡ unknown = sym e ∙ u in
+    let fact : sourceFact (sourceOf s 0 0 l) facts ≡ unknown = sym e ∙ u in
     rw low (let g = rw low at fact in rw (eq-eqb _ unknown g) refl)
 
-pub known-values : (facts : List ℕ) (s l f : ℕ) → s < 16 → f ≡ sourceFact (sourceOf s 0 l) facts → (f ≡ unknown → ⊥)
-    → record { low = f; count = 1 } ≡ spanOf (sourceOf s 0 l) facts
+pub known-values : (facts : List ℕ) (s l f : ℕ) → s < 16 → f ≡ sourceFact (sourceOf s 0 0 l) facts → (f ≡ unknown → ⊥)
+    → record { low = f; count = 1 } ≡ spanOf (sourceOf s 0 0 l) facts
 known-values facts s l f h e n =
     let low = lt-leb 16 s h in
-    let g : f ≡ sourceFact (register (slotOf s) 0) facts = rw low at e in
+    let g : f ≡ sourceFact (register (slotOf s) 0 0) facts = rw low at e in
     rw low (rw (← g, ne-eqb f unknown n) refl)
 
-pub bank-values : (facts : List ℕ) (s l : ℕ) → 16 ≤ s → record { low = 0; count = 2 ^ widthOf l } ≡ spanOf (sourceOf s 0 l) facts
+pub bank-values : (facts : List ℕ) (s l : ℕ) → 16 ≤ s → record { low = 0; count = 2 ^ widthOf l } ≡ spanOf (sourceOf s 0 0 l) facts
 bank-values facts s l h = rw (le-leb 16 s h) refl
 
-pub whole-values : (facts : List ℕ) (s l : ℕ) → 16 ≤ s → l ≡ 0 → record { low = 0; count = 256 } ≡ spanOf (sourceOf s 0 l) facts
+pub whole-values : (facts : List ℕ) (s l : ℕ) → 16 ≤ s → l ≡ 0 → record { low = 0; count = 256 } ≡ spanOf (sourceOf s 0 0 l) facts
 whole-values facts s l h e = rw e (bank-values facts s 0 h)
 
 pub field-values : (facts : List ℕ) (s l : ℕ) → 16 ≤ s → (l ≡ 0 → ⊥) → l < 8
-    → (record { low = 0; count = 1 * 2 ^ l % 18446744073709551616 } ≡ spanOf (sourceOf s 0 l) facts)
+    → (record { low = 0; count = 1 * 2 ^ l % 18446744073709551616 } ≡ spanOf (sourceOf s 0 0 l) facts)
     × (0 + 1 * 2 ^ l % 18446744073709551616 ≤ 256)
 field-values facts s l h n short =
     let most : 2 ^ l ≤ 256 = pow-mono {j = 8} (omega arith) in

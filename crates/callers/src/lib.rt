@@ -24,10 +24,10 @@ pub struct Values {
 // The values of the source s, or of its field of length l where it is a bank.
 pub fn values_of(facts: [u16; 11], s: usize, l: usize) -> Values
     requires { ⌜ Bounded facts × (l < 8) ⌝ }
-    ensures { λ r. ⌜ (spanIs r ≡ spanOf (sourceOf s 0 l) facts) × (r .low + r .count ≤ 256) ⌝ }
+    ensures { λ r. ⌜ (spanIs r ≡ spanOf (sourceOf s 0 0 l) facts) × (r .low + r .count ≤ 256) ⌝ }
 {
     if s < word::FIRST_BANK {
-        let f = effects::fact_of(facts, s, 0);
+        let f = effects::fact_of(facts, s, 0, 0);
         if f == facts::UNKNOWN {
             return Values { low: 0, count: 256 };
         }
@@ -128,7 +128,7 @@ fn xec_performs(
     returns: bool,
 ) -> bool
     requires { ⌜ InImage (now image) pc × Bounded facts × (l < 8) × IsPage page × (i < 256) ⌝ }
-    ensures { λ r. ⌜ r ≡ some (pick returns isReturn isCall) (wordsAt (now (image .entry)) pc facts (go (sourceOf s 0 l) (defer page i))) ⌝ }
+    ensures { λ r. ⌜ r ≡ some (pick returns isReturn isCall) (wordsAt (now (image .entry)) pc facts (go (sourceOf s 0 0 l) (defer page i))) ⌝ }
 {
     let v = values_of(facts, s, l);
     let mut k = 0;

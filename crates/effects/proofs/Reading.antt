@@ -6,18 +6,18 @@ use native.Mathlib.Omega.{arith}
 use lib.ListN.{length, getD, set}
 use borrow.Author.Tests.{lt-leb, le-leb}
 use Rattle.choice.specs.Choice.{pick}
-use Rattle.field.specs.Field.{rotateRight}
+use Rattle.field.specs.Field.{rotateRight, lowBits}
 use Rattle.machine.specs.Shape.{slotOf, sourceOf, targetOf}
 use Rattle.facts.specs.Facts.{factCount, unknown, isKnown, sourceFact, resultFact, withCarryFact, putFact}
 use Rattle.cells.proofs.Laws.{getD-inside}
 
 module _ (fs : List ℕ) (long : length fs ≡ factCount) where
   -- a register as the source
-  pub source-eq : (s places l : ℕ) {k r : ℕ} → s < 16 → k ≡ slotOf s → k < factCount
-      → r ≡ pick (isKnown (getD fs k 0)) (rotateRight places (getD fs k 0)) unknown → r ≡ sourceFact (sourceOf s places l) fs
-  source-eq s places l {k} h at inside e =
+  pub source-eq : (s places kept l : ℕ) {k r : ℕ} → s < 16 → k ≡ slotOf s → k < factCount
+      → r ≡ pick (isKnown (getD fs k 0)) (lowBits kept (rotateRight places (getD fs k 0))) unknown → r ≡ sourceFact (sourceOf s places kept l) fs
+  source-eq s places kept l {k} h at inside e =
       rw (lt-leb 16 s h)
-      (e ∙ ap (λ (f : ℕ). pick (isKnown f) (rotateRight places f) unknown) (getD-inside fs k 0 unknown (rw long inside) ∙ ap (λ (j : ℕ). getD fs j unknown) at))
+      (e ∙ ap (λ (f : ℕ). pick (isKnown f) (lowBits kept (rotateRight places f)) unknown) (getD-inside fs k 0 unknown (rw long inside) ∙ ap (λ (j : ℕ). getD fs j unknown) at))
 
   aux-eq : getD fs 0 0 ≡ getD fs 0 unknown
   aux-eq = getD-inside fs 0 0 unknown (omega arith)

@@ -3,7 +3,7 @@ ghost use mathlib.Core.Path.{_≡_};
 ghost use Prim.Native.Nat.{ℕ, _<_, _≤_};
 ghost use lib.ListN.{getD};
 ghost use Rattle.choice.specs.Choice.{pick};
-ghost use Rattle.field.specs.Field.{rotateRight};
+ghost use Rattle.field.specs.Field.{rotateRight, lowBits};
 ghost use Rattle.machine.specs.Shape.{sourceOf, targetOf};
 ghost use Rattle.machine.specs.Parts.{deliverySource};
 ghost use Rattle.facts.specs.Facts.{unknown, isKnown, sourceFact, resultFact, carryFact, withCarryFact, putFact};
@@ -11,25 +11,25 @@ ghost use Rattle.cells.specs.Cells.{Bounded};
 use facts::UNKNOWN;
 use machine::act::Delivery;
 
-// The fact of a register rotated by places.
-fn rotated(f: u16, places: usize) -> u16
-    requires { ⌜ (f ≤ unknown) × (places < 8) ⌝ }
-    ensures { λ r. ⌜ (r ≡ pick (isKnown f) (rotateRight places f) unknown) × (r ≤ unknown) ⌝ }
+// The fact of a register rotated by places and kept to a length.
+fn masked(f: u16, places: usize, kept: usize) -> u16
+    requires { ⌜ (f ≤ unknown) × (places < 8) × (kept < 8) ⌝ }
+    ensures { λ r. ⌜ (r ≡ pick (isKnown f) (lowBits kept (rotateRight places f)) unknown) × (r ≤ unknown) ⌝ }
 {
     if f == UNKNOWN {
         return UNKNOWN;
     }
-    field::rotate(f as u8, places) as u16
+    field::low(field::rotate(f as u8, places), kept) as u16
 }
 
-// The fact of the source s, a register rotated by places. A bank is never known.
-pub fn fact_of(facts: [u16; 11], s: usize, places: usize) -> u16
-    requires { ⌜ Bounded facts × (places < 8) ⌝ }
-    ensures { λ r. ⌜ ((l : ℕ) → r ≡ sourceFact (sourceOf s places l) facts) × (r ≤ unknown) ⌝ }
+// The fact of the source s, a register rotated by places and kept to a length. A bank is never known.
+pub fn fact_of(facts: [u16; 11], s: usize, places: usize, kept: usize) -> u16
+    requires { ⌜ Bounded facts × (places < 8) × (kept < 8) ⌝ }
+    ensures { λ r. ⌜ ((l : ℕ) → r ≡ sourceFact (sourceOf s places kept l) facts) × (r ≤ unknown) ⌝ }
 {
     if s < word::FIRST_BANK {
         let k = machine::act::slot_of(s);
-        return rotated(facts[k], places);
+        return masked(facts[k], places, kept);
     }
     UNKNOWN
 }
@@ -43,7 +43,12 @@ pub fn argument_fact(facts: [u16; 11], a: Delivery) -> u16
     if kind == 1 {
         return a.i as u16;
     }
-    fact_of(facts, a.s, machine::act::places(a.rl, a.d))
+    fact_of(
+        facts,
+        a.s,
+        machine::act::places(a.rl, a.d),
+        machine::act::kept(a.op, a.rl, a.d),
+    )
 }
 
 // The fact of a result: MOVE reads the source alone, ADD, AND and XOR read AUX too.

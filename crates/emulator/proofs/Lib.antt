@@ -5,3 +5,4 @@ pub mod Laws
 pub mod Values
 pub mod Range
 pub mod Addresses
+pub mod Overflow

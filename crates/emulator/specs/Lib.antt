@@ -1,3 +1,4 @@
 pub mod Run
 pub mod Parts
 pub mod Addresses
+pub mod Overflow

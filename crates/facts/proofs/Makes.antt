@@ -12,8 +12,8 @@ use borrow.Author.Tests.{eqb-false, eq-eqb, ltb-true, ltb-false, not-true}
 use Rattle.choice.specs.Choice.{pick}
 use Rattle.choice.proofs.Laws.{pick-cases, and-first, and-second}
 use lib.Pow.{pow-mono}
-use Rattle.field.specs.Field.{rotateRight, widthOf, sumOf, andOf, xorOf}
-use Rattle.field.proofs.Laws.{rotate-lt, sum-lt, and-byte, xor-byte}
+use Rattle.field.specs.Field.{rotateRight, widthOf, lowBits, sumOf, andOf, xorOf}
+use Rattle.field.proofs.Laws.{rotate-lt, low-lt, sum-lt, and-byte, xor-byte}
 use Rattle.state.specs.State.{overflowSlot}
 use Rattle.machine.specs.Shape.{Source, register, bank, constant, Target, slot, latch}
 use Rattle.machine.specs.Step.{resultOf}
@@ -32,12 +32,12 @@ known-low f h k = let ne = eqb-false f unknown (not-true (eqb f unknown) k) in o
 -- ---- knows no more
 
 pub source-no-more : (source : Source) (gs fs : List ℕ) → allKnowNoMore gs fs ≡ true → knowsNoMore (sourceFact source gs) (sourceFact source fs) ≡ true
-source-no-more (register k places) gs fs h =
+source-no-more (register k places kept) gs fs h =
     let g = getD gs k unknown in
     let f = getD fs k unknown in
     no-more-cases g f (all-at gs fs h k)
-    (λ e. no-more-unknown (sourceFact (register k places) gs) (sourceFact (register k places) fs) (rw (eq-eqb g unknown e)))
-    (λ e. no-more-same (sourceFact (register k places) gs) (sourceFact (register k places) fs) (ap (λ (x : ℕ). pick (isKnown x) (rotateRight places x) unknown) e))
+    (λ e. no-more-unknown (sourceFact (register k places kept) gs) (sourceFact (register k places kept) fs) (rw (eq-eqb g unknown e)))
+    (λ e. no-more-same (sourceFact (register k places kept) gs) (sourceFact (register k places kept) fs) (ap (λ (x : ℕ). pick (isKnown x) (lowBits kept (rotateRight places x)) unknown) e))
 source-no-more (bank b p l) gs fs h = refl
 source-no-more (constant x) gs fs h = no-more-same x x refl
 
@@ -111,9 +111,9 @@ after-no-more source op (latch b p l) gs fs same h = carried source op (latch b 
 -- ---- the layout
 
 pub source-bound : (source : Source) (fs : List ℕ) → SourceInRange source → FineFacts fs → sourceFact source fs ≤ unknown
-source-bound (register k places) fs fits fine =
+source-bound (register k places kept) fs fits fine =
     pick-cases (λ (x : ℕ). x ≤ unknown) (isKnown (getD fs k unknown))
-    (λ e. let low = rotate-lt places (fits .1) (known-low (getD fs k unknown) (fine .bounded k) e) in omega arith)
+    (λ e. let low = low-lt kept (rotate-lt places (fits .1) (known-low (getD fs k unknown) (fine .bounded k) e)) in omega arith)
     (λ e. omega arith)
 source-bound (bank b p l) fs fits fine = omega arith
 source-bound (constant x) fs fits fine = omega arith
@@ -171,16 +171,16 @@ wholeSpan = record { low = 0; count = 256 }
 
 pub span-cases : {P : Type 0} (source : Source) (gs fs : List ℕ) → allKnowNoMore gs fs ≡ true
     → (spanOf source gs ≡ spanOf source fs → P) → (spanOf source gs ≡ wholeSpan → P) → P
-span-cases (register k places) gs fs h p q =
-    let g = sourceFact (register k places) gs in
-    let f = sourceFact (register k places) fs in
-    no-more-cases g f (source-no-more (register k places) gs fs h) (λ e. q (rw (eq-eqb g unknown e))) (λ e. p (ap factSpan e))
+span-cases (register k places kept) gs fs h p q =
+    let g = sourceFact (register k places kept) gs in
+    let f = sourceFact (register k places kept) fs in
+    no-more-cases g f (source-no-more (register k places kept) gs fs h) (λ e. q (rw (eq-eqb g unknown e))) (λ e. p (ap factSpan e))
 span-cases (bank b p l) gs fs h same whole = same refl
 span-cases (constant x) gs fs h same whole = same refl
 
 pub span-count : (source : Source) (fs : List ℕ) → spanOf source fs .count ≤ mostValues source
-span-count (register k places) fs =
-    pick-cases (λ (span : Span). span .count ≤ 256) (isKnown (sourceFact (register k places) fs)) (λ e. omega arith) (λ e. omega arith)
+span-count (register k places kept) fs =
+    pick-cases (λ (span : Span). span .count ≤ 256) (isKnown (sourceFact (register k places kept) fs)) (λ e. omega arith) (λ e. omega arith)
 span-count (bank b p l) fs = omega arith
 span-count (constant x) fs = omega arith
 
@@ -189,9 +189,9 @@ bank-span l h = pick-cases (λ (w : ℕ). 2 ^ w ≤ 256) (eqb l 0) (λ e. omega 
 
 -- a known source's value is a byte, and an unknown one has 256
 pub span-bytes : (source : Source) (fs : List ℕ) → SourceInRange source → FineFacts fs → (v : ℕ) → v < spanOf source fs .low + spanOf source fs .count → v < 256
-span-bytes (register k places) fs fits fine v h =
-    let f = sourceFact (register k places) fs in
-    span-low f (source-bound (register k places) fs fits fine) v h
+span-bytes (register k places kept) fs fits fine v h =
+    let f = sourceFact (register k places kept) fs in
+    span-low f (source-bound (register k places kept) fs fits fine) v h
   where
     span-low : (f : ℕ) → f ≤ unknown → (v : ℕ) → v < factSpan f .low + factSpan f .count → v < 256
     span-low f b v h = go (isKnown f) refl h

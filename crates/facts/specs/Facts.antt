@@ -7,7 +7,7 @@ use Prim.Native.Nat.{ℕ, _+_, _^_}
 use lib.Dec.{leb, ltb, eqb}
 use lib.ListN.{getD, set, replicate}
 use Rattle.choice.specs.Choice.{pick}
-use Rattle.field.specs.Field.{rotateRight, widthOf, carryOf}
+use Rattle.field.specs.Field.{rotateRight, widthOf, lowBits, carryOf}
 use Rattle.state.specs.State.{overflowSlot}
 use Rattle.machine.specs.Shape.{Source, register, bank, constant, Target, slot, latch}
 use Rattle.machine.specs.Step.{resultOf}
@@ -62,7 +62,8 @@ knownCount (f ∷ fs) = pick (isKnown f) 1 0 + knownCount fs
 
 -- The fact of a source: known when its register is known; a bank is never known.
 abbrev pub sourceFact : Source → List ℕ → ℕ
-sourceFact (register k places) facts = pick (isKnown (getD facts k unknown)) (rotateRight places (getD facts k unknown)) unknown
+sourceFact (register k places kept) facts =
+    pick (isKnown (getD facts k unknown)) (lowBits kept (rotateRight places (getD facts k unknown))) unknown
 sourceFact (bank b p l) facts = unknown
 sourceFact (constant x) facts = x
 
@@ -98,7 +99,7 @@ abbrev pub factSpan : ℕ → Span
 factSpan f = pick (isKnown f) (record { low = f; count = 1 }) (record { low = 0; count = 256 })
 
 abbrev pub spanOf : Source → List ℕ → Span
-spanOf (register k places) facts = factSpan (sourceFact (register k places) facts)
+spanOf (register k places kept) facts = factSpan (sourceFact (register k places kept) facts)
 spanOf (bank b p l) facts = record { low = 0; count = 2 ^ widthOf l }
 spanOf (constant x) facts = record { low = x; count = 1 }
 

@@ -3,7 +3,7 @@
 use mathlib.Core.Path.{_≡_, refl, sym, ap, ap₂, _∙_, subst}
 use Prim.Native.Nat.{ℕ, _+_, _-_, _*_, _/_, _%_, _^_, _<_, _≤_, min}
 use native.Mathlib.Nat.{add-comm, add-assoc, mul-assoc, mul-comm, lt-of-le-of-lt, mod-le, mod-lt, mod-eq-of-lt}
-use native.Mathlib.Nat.{min-eq-left, mul-add-mod-self-right}
+use native.Mathlib.Nat.{min-eq-left, mul-add-mod-self-right, add-mod-mod}
 use native.Mathlib.Decide.{decLe}
 use native.Mathlib.Omega.{arith}
 use lib.Arith.{digits-lt}
@@ -90,7 +90,7 @@ module _ (w k v x : ℕ) where
 
 -- ---- rotation
 
-pub rotate-none : (x : ℕ) → rotateRight 0 x ≡ x
+rotate-none : (x : ℕ) → rotateRight 0 x ≡ x
 unfolding rotateRight
 rotate-none x = omega arith
 
@@ -134,6 +134,11 @@ rotate-rotate p q {x} hp hq hx = either (decLe 8 (p + q))
 
 -- ---- field and merge
 
+-- a byte that is not rotated and keeps all its bits
+pub whole-byte : {x : ℕ} → x < 256 → lowBits 0 (rotateRight 0 x) ≡ x
+unfolding lowBits
+whole-byte {x} h = ap (λ (n : ℕ). n % 256) (rotate-none x) ∙ mod-eq-of-lt h
+
 -- a field that fits the byte is read back
 pub merge-then-field : (p l v latch : ℕ) → p < 8 → widthOf l ≤ p + 1
     → fieldOf p l (mergeInto p l v latch) ≡ lowBits l v
@@ -164,6 +169,40 @@ merge-drop p l v latch =
   where
     past : p + 1 ≡ p + 1 - min (widthOf l) (p + 1) + min (widthOf l) (p + 1)
     past = omega arith
+
+-- ---- a sum whose source keeps its low bits
+
+-- the low w digits of a sum, of which 8 are kept, are those of the low digits of its source
+sum-low : (w v aux x : ℕ) → v ≤ w → sumOf aux (x % 2 ^ w) % 2 ^ v ≡ sumOf aux x % 2 ^ v
+sum-low w v aux x h = either (decLe w 8)
+  where
+    same : (aux + x % 2 ^ w) % 2 ^ w ≡ (aux + x) % 2 ^ w
+    same = add-mod-mod aux x (2 ^ w)
+
+    -- digits of a number that keeps at least as many
+    fewer : (m n y : ℕ) → n ≤ m → y % 2 ^ m % 2 ^ n ≡ y % 2 ^ n
+    fewer m n y l = ap (λ (k : ℕ). y % 2 ^ k % 2 ^ n) past ∙ mod-mod-pow y (m - n) n
+      where
+        past : m ≡ m - n + n
+        past = omega arith
+
+    either : Dec (w ≤ 8) → sumOf aux (x % 2 ^ w) % 2 ^ v ≡ sumOf aux x % 2 ^ v
+    either (yes l) =
+        fewer 8 v (aux + x % 2 ^ w) (omega arith) ∙ sym (fewer w v (aux + x % 2 ^ w) h)
+        ∙ ap (λ (n : ℕ). n % 2 ^ v) same ∙ fewer w v (aux + x) h ∙ sym (fewer 8 v (aux + x) (omega arith))
+    either (no l) =
+        ap (λ (n : ℕ). n % 2 ^ v)
+        (sym (fewer w 8 (aux + x % 2 ^ w) (omega arith)) ∙ ap (λ (n : ℕ). n % 256) same ∙ fewer w 8 (aux + x) (omega arith))
+
+-- the merged byte is the same with and without the mask, for every position, length, AUX, source and latch
+pub merge-sum : (p l aux x latch : ℕ) → mergeInto p l (sumOf aux (lowBits l x)) latch ≡ mergeInto p l (sumOf aux x) latch
+unfolding mergeInto lowBits
+merge-sum p l aux x latch =
+    ap (λ (n : ℕ). latch / 2 ^ (width + (7 - p)) * 2 ^ (width + (7 - p)) + n * 2 ^ (7 - p) + latch % 2 ^ (7 - p))
+    (sum-low (widthOf l) width aux x (omega arith))
+  where
+    width : ℕ
+    width = min (widthOf l) (p + 1)
 
 -- ---- results are bytes
 

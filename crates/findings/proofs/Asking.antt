@@ -53,20 +53,20 @@ module _ (fs : List ℕ) (long : length fs ≡ factCount) (s : ℕ) where
 pub address-fits : (fs : List ℕ) → length fs ≡ factCount → Bounded fs → (s a : ℕ) → (getD fs (9 + s / 8 % 2) 0 ≡ unknown → ⊥) → a ≡ getD fs (9 + s / 8 % 2) 0 → a < 256
 address-fits fs long bounded s a h e = let most = fact-bound fs long bounded (9 + s / 8 % 2) (omega arith) in fact-fits (getD fs (9 + s / 8 % 2) 0) a most h e
 
-module _ (map fs : List ℕ) (long : length fs ≡ factCount) (s places l : ℕ) where
-  pub read-register : s < 16 → Tells 0 (readQuestions map (sourceOf s places l) fs)
+module _ (map fs : List ℕ) (long : length fs ≡ factCount) (s places kept l : ℕ) where
+  pub read-register : s < 16 → Tells 0 (readQuestions map (sourceOf s places kept l) fs)
   read-register h = rw (lt-leb 16 s h) tells-none
 
-  pub read-unknown : 16 ≤ s → getD fs (9 + s / 8 % 2) 0 ≡ unknown → Tells 28 (readQuestions map (sourceOf s places l) fs)
+  pub read-unknown : 16 ≤ s → getD fs (9 + s / 8 % 2) 0 ≡ unknown → Tells 28 (readQuestions map (sourceOf s places kept l) fs)
   read-unknown h e = rw (le-leb 16 s h) (known-no 23 (address fs s) (readable map (s / 8 % 2) (address fs s)) (sym (address-eq fs long s) ∙ e))
 
   pub read-refused : (a : ℕ) (b : Bool) → 16 ≤ s → (getD fs (9 + s / 8 % 2) 0 ≡ unknown → ⊥) → a ≡ getD fs (9 + s / 8 % 2) 0 → b ≡ readable map (s / 8 % 2) a → b ≡ false
-      → Tells 23 (readQuestions map (sourceOf s places l) fs)
+      → Tells 23 (readQuestions map (sourceOf s places kept l) fs)
   read-refused a b h k ea eb e =
       rw (le-leb 16 s h) (known-refused 23 (address fs s) (readable map (s / 8 % 2) (address fs s)) (λ z. omega arith) (address-known fs long s k) (sym (eb ∙ ap (readable map (s / 8 % 2)) (ea ∙ address-eq fs long s)) ∙ e))
 
   pub read-fine : (a : ℕ) (b : Bool) → 16 ≤ s → (getD fs (9 + s / 8 % 2) 0 ≡ unknown → ⊥) → a ≡ getD fs (9 + s / 8 % 2) 0 → b ≡ readable map (s / 8 % 2) a → b ≡ true
-      → Tells 0 (readQuestions map (sourceOf s places l) fs)
+      → Tells 0 (readQuestions map (sourceOf s places kept l) fs)
   read-fine a b h k ea eb e = rw (le-leb 16 s h) (known-fine 23 (address fs s) (readable map (s / 8 % 2) (address fs s)) (address-known fs long s k) (sym (eb ∙ ap (readable map (s / 8 % 2)) (ea ∙ address-eq fs long s)) ∙ e))
 
 module _ (map fs : List ℕ) (long : length fs ≡ factCount) (d l y : ℕ) where
@@ -183,46 +183,46 @@ module _ (image table : List ℕ) (depth pc low count page i a : ℕ) (both : Bo
   branch-outside h = tells-no 21 _ [] (sym both-eq ∙ h) (λ z. omega arith)
 
 -- CALL
-pub aux-source : sourceOf 0 0 0 ≡ register 0 0
+pub aux-source : sourceOf 0 0 0 0 ≡ register 0 0 0
 unfolding slotOf
 aux-source = refl
 
-module _ (image map table fs : List ℕ) (depth pc i low count : ℕ) (e : record { low = low; count = count } ≡ spanOf (sourceOf 0 0 0) fs) where
-  span-eq : record { low = low; count = count } ≡ spanOf (register 0 0) fs
+module _ (image map table fs : List ℕ) (depth pc i low count : ℕ) (e : record { low = low; count = count } ≡ spanOf (sourceOf 0 0 0 0) fs) where
+  span-eq : record { low = low; count = count } ≡ spanOf (register 0 0 0) fs
   span-eq = e ∙ ap (λ (s : Source). spanOf s fs) aux-source
 
   calls : List Question
   calls = controlQuestions image table depth pc (record { low = low; count = count }) (call i)
 
-  told : (r : ℕ) → Tells r calls → Tells r (wordFindings image map table depth pc fs (go (register 0 0) (call i)))
+  told : (r : ℕ) → Tells r calls → Tells r (wordFindings image map table depth pc fs (go (register 0 0 0) (call i)))
   unfolding calls
   told r t = subst (λ (v : Span). Tells r (controlQuestions image table depth pc v (call i))) span-eq t
 
   inside : Bool
   inside = ltb (low * 256 + i) (wordCount image) && ltb (pc + 1) (wordCount image)
 
-  pub call-unknown : depth < 8 → (count ≡ 1 → ⊥) → Tells 28 (wordFindings image map table depth pc fs (go (register 0 0) (call i)))
+  pub call-unknown : depth < 8 → (count ≡ 1 → ⊥) → Tells 28 (wordFindings image map table depth pc fs (go (register 0 0 0) (call i)))
   unfolding calls inside
   call-unknown h n =
       told 28 (tells-yes 26 28 (ltb depth 8) (ask 28 (eqb count 1) ∷ ask 21 inside ∷ []) (lt-ltb depth 8 h)
       (tells-no 28 (eqb count 1) (ask 21 inside ∷ []) (ne-eqb count 1 n) (λ z. omega arith)))
 
   pub call-inside : (b : Bool) → depth < 8 → count ≡ 1 → b ≡ (ltb (low * 256 + i) (wordCount image) && ltb (pc + 1) (wordCount image)) → b ≡ true
-      → Tells 0 (wordFindings image map table depth pc fs (go (register 0 0) (call i)))
+      → Tells 0 (wordFindings image map table depth pc fs (go (register 0 0 0) (call i)))
   unfolding calls inside
   call-inside b h n eb t =
       told 0 (tells-yes 26 0 (ltb depth 8) (ask 28 (eqb count 1) ∷ ask 21 inside ∷ []) (lt-ltb depth 8 h)
       (tells-yes 28 0 (eqb count 1) (ask 21 inside ∷ []) (eq-eqb count 1 n) (tells-yes 21 0 inside [] (sym eb ∙ t) tells-none)))
 
   pub call-outside : (b : Bool) → depth < 8 → count ≡ 1 → b ≡ (ltb (low * 256 + i) (wordCount image) && ltb (pc + 1) (wordCount image)) → b ≡ false
-      → Tells 21 (wordFindings image map table depth pc fs (go (register 0 0) (call i)))
+      → Tells 21 (wordFindings image map table depth pc fs (go (register 0 0 0) (call i)))
   unfolding calls inside
   call-outside b h n eb t =
       told 21 (tells-yes 26 21 (ltb depth 8) (ask 28 (eqb count 1) ∷ ask 21 inside ∷ []) (lt-ltb depth 8 h)
       (tells-yes 28 21 (eqb count 1) (ask 21 inside ∷ []) (eq-eqb count 1 n) (tells-no 21 inside [] (sym eb ∙ t) (λ z. omega arith))))
 
 module _ (image map table fs : List ℕ) (depth pc i : ℕ) where
-  pub call-full : 8 ≤ depth → Tells 26 (wordFindings image map table depth pc fs (go (register 0 0) (call i)))
+  pub call-full : 8 ≤ depth → Tells 26 (wordFindings image map table depth pc fs (go (register 0 0 0) (call i)))
   call-full h = λ rest. rw (le-ltb depth 8 h)
 
 -- RET

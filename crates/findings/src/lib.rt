@@ -30,7 +30,7 @@ fn wide(x: u16) -> usize
 // Question 2, where the source s is a bank.
 fn read_finding(map: &[u8], facts: [u16; 11], s: usize) -> u8
     requires { ⌜ (length (now map) ≡ mapLength) × Bounded facts ⌝ }
-    ensures { λ r. ⌜ ((places l : ℕ) → Tells r (readQuestions (now (map .entry)) (sourceOf s places l) facts)) ⌝ }
+    ensures { λ r. ⌜ ((places kept l : ℕ) → Tells r (readQuestions (now (map .entry)) (sourceOf s places kept l) facts)) ⌝ }
 {
     if s < word::FIRST_BANK {
         return 0;
@@ -140,7 +140,7 @@ fn branch_finding(
     i: usize,
 ) -> u8
     requires { ⌜ InImage (now image) pc × (length (now map) ≡ mapLength) × Bounded facts × (l < 8) × IsPage page ⌝ }
-    ensures { λ r. ⌜ ((table : List ℕ) (depth : ℕ) → Tells r (wordFindings (now (image .entry)) (now (map .entry)) table depth pc facts (go (sourceOf s 0 l) (branch page i)))) ⌝ }
+    ensures { λ r. ⌜ ((table : List ℕ) (depth : ℕ) → Tells r (wordFindings (now (image .entry)) (now (map .entry)) table depth pc facts (go (sourceOf s 0 0 l) (branch page i)))) ⌝ }
 {
     let f = read_finding(map, facts, s);
     if f != 0 {
@@ -156,7 +156,7 @@ fn branch_finding(
 // CALL.
 fn call_finding(image: &[u8], depth: usize, pc: usize, facts: [u16; 11], i: usize) -> u8
     requires { ⌜ InImage (now image) pc × Bounded facts × (i < 256) ⌝ }
-    ensures { λ r. ⌜ ((map table : List ℕ) → Tells r (wordFindings (now (image .entry)) map table depth pc facts (go (register 0 0) (call i)))) ⌝ }
+    ensures { λ r. ⌜ ((map table : List ℕ) → Tells r (wordFindings (now (image .entry)) map table depth pc facts (go (register 0 0 0) (call i)))) ⌝ }
 {
     if state::PLACES <= depth {
         return 26;
@@ -270,7 +270,7 @@ fn xec_finding(
     i: usize,
 ) -> u8
     requires { ⌜ InImage (now image) pc × (length (now map) ≡ mapLength) × Bounded facts × (l < 8) × IsPage page × (i < 256) ⌝ }
-    ensures { λ r. ⌜ ((table : List ℕ) → back ≡ allBelow (wordCount (now (image .entry))) (wordCount (now (image .entry))) (isCallSite (now (image .entry)) table (depth - 1)) → Tells r (deferFindings (now (image .entry)) (now (map .entry)) table depth pc facts (go (sourceOf s 0 l) (defer page i)))) ⌝ }
+    ensures { λ r. ⌜ ((table : List ℕ) → back ≡ allBelow (wordCount (now (image .entry))) (wordCount (now (image .entry))) (isCallSite (now (image .entry)) table (depth - 1)) → Tells r (deferFindings (now (image .entry)) (now (map .entry)) table depth pc facts (go (sourceOf s 0 0 l) (defer page i)))) ⌝ }
 {
     let v = callers::values_of(facts, s, l);
     let mut k = 0;

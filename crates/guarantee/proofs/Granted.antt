@@ -36,7 +36,7 @@ bank-granted number test b facts values h e =
 
 read-granted : (map : List ℕ) (source : Source) (facts values : List ℕ) → within facts values ≡ true
     → Each Yes (readQuestions map source facts) → mayRead map source values ≡ true
-read-granted map (register k places) facts values h e = refl
+read-granted map (register k places kept) facts values h e = refl
 read-granted map (bank b p l) facts values h e = bank-granted 23 (readable map b) b facts values h e
 read-granted map (constant x) facts values h e = refl
 

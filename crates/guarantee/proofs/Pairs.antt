@@ -9,8 +9,8 @@ use lib.ListN.{length, getD, length-set}
 use borrow.Author.Tests.{lt-ltb, le-leb}
 use Rattle.choice.specs.Choice.{pick}
 use Rattle.choice.proofs.Laws.{pick-cases, pick-beside, and-both, and-first, and-second, or-cases}
-use Rattle.field.specs.Field.{rotateRight, widthOf, fieldOf, carryOf}
-use Rattle.field.proofs.Laws.{rotate-lt, field-width}
+use Rattle.field.specs.Field.{rotateRight, widthOf, lowBits, fieldOf, carryOf}
+use Rattle.field.proofs.Laws.{rotate-lt, low-lt, field-width}
 use Rattle.state.specs.State.{overflowSlot, EachBelow}
 use Rattle.machine.specs.Shape.{Source, register, bank, constant, Target, slot, latch}
 use Rattle.machine.specs.Step.{valueOf, resultOf, withOverflow, putValue}
@@ -24,9 +24,9 @@ allows-picked known {v} h = pick-cases (λ f. allows f v ≡ true) known (λ k. 
 
 pub source-allowed : (source : Source) (facts values bus : List ℕ) → within facts values ≡ true
     → allows (sourceFact source facts) (valueOf source values bus) ≡ true
-source-allowed (register k places) facts values bus h =
+source-allowed (register k places kept) facts values bus h =
     allows-picked (isKnown (getD facts k unknown))
-    (λ known. ap (rotateRight places) (known-same (getD facts k unknown) (getD values k 0) known (within-at facts values k h)))
+    (λ known. ap (λ (x : ℕ). lowBits kept (rotateRight places x)) (known-same (getD facts k unknown) (getD values k 0) known (within-at facts values k h)))
 source-allowed (bank b p l) facts values bus h = refl
 source-allowed (constant x) facts values bus h = allows-same {f = x} refl
 
@@ -42,10 +42,10 @@ fact-span-holds f v a h =
 
 pub span-holds : (source : Source) (facts values bus : List ℕ) → SourceInRange source → EachBelow 256 values → within facts values ≡ true
     → holds (spanOf source facts) (valueOf source values bus) ≡ true
-span-holds (register k places) facts values bus fits below h =
-    fact-span-holds (sourceFact (register k places) facts) (rotateRight places (getD values k 0))
-    (source-allowed (register k places) facts values bus h)
-    (rotate-lt places (fits .1) (below k))
+span-holds (register k places kept) facts values bus fits below h =
+    fact-span-holds (sourceFact (register k places kept) facts) (lowBits kept (rotateRight places (getD values k 0)))
+    (source-allowed (register k places kept) facts values bus h)
+    (low-lt kept (rotate-lt places (fits .1) (below k)))
 span-holds (bank b p l) facts values bus fits below h =
     let v = fieldOf p l (getD bus b 0) in
     and-both (le-leb 0 v (omega arith)) (lt-ltb v (0 + 2 ^ widthOf l) (omega (arith, field-width p l (getD bus b 0))))

@@ -46,7 +46,7 @@ over-numbered from (suc n) test f h =
     each-append (pick-both (Each Numbered) (test from) (h from) none) (over-numbered (suc from) n test f h)
 
 read-numbered : (map : List ℕ) (source : Source) (facts : List ℕ) → Each Numbered (readQuestions map source facts)
-read-numbered map (register k places) facts = none
+read-numbered map (register k places kept) facts = none
 read-numbered map (bank b p l) facts = also refl (also refl none)
 read-numbered map (constant x) facts = none
 

@@ -10,7 +10,7 @@ use lib.Dec.{ltb, eqb}
 use lib.ListN.{length, getD, set, replicate, List·getD-eq-default}
 use borrow.Author.Tests.{ltb-true, eqb-true}
 use Rattle.choice.proofs.Laws.{and-first, and-second}
-use Rattle.field.specs.Field.{rotateRight}
+use Rattle.field.specs.Field.{rotateRight, lowBits}
 use Rattle.word.specs.Word.{decoded}
 use Rattle.map.specs.Map.{inSet}
 use Rattle.machine.specs.Shape.{shapeOf, slotOf}
@@ -61,11 +61,11 @@ pub table : List ℕ
 table = putCell (putCell (putCell (putCell (putCell (startTable image) 1 looping) 2 looping) 10 looping) 11 looping) 12 looping
 
 all-passed : every (depths * wordCount image) (λ i. allCovered (tableSpace image) table (passesFrom image table i)) ≡ true
-unfolding every table looping allKnowNoMore holdsCell recordOf maskOf readCell cellAt putRecord over overDown gives wordsAt some wordPasses allPasses allCovered decoded shapeOf slotOf rotateRight resultOf resultFact withCarryFact inSet
+unfolding every table looping allKnowNoMore holdsCell recordOf maskOf readCell cellAt putRecord over overDown gives wordsAt some wordPasses allPasses allCovered decoded shapeOf slotOf rotateRight lowBits resultOf resultFact withCarryFact inSet
 all-passed = refl
 
 none-found : every (depths * wordCount image) (λ i. eqb (findingAt image map table i) 0) ≡ true
-unfolding every table looping allKnowNoMore holdsCell recordOf maskOf readCell cellAt putRecord over overDown gives wordsAt some wordPasses allPasses allBelow findingAt decoded shapeOf slotOf rotateRight resultOf resultFact withCarryFact inSet
+unfolding every table looping allKnowNoMore holdsCell recordOf maskOf readCell cellAt putRecord over overDown gives wordsAt some wordPasses allPasses allBelow findingAt decoded shapeOf slotOf rotateRight lowBits resultOf resultFact withCarryFact inSet
 none-found = refl
 
 pub witness-closed : Closed (tableSpace image) resetCell table
@@ -91,11 +91,11 @@ witness-bytes k = by (decLt k 14)
 -- ---- and admission admits it: three sweeps fill the table, and the next changes nothing
 
 settled : sweepChanges (tableSpace image) (sweeps (tableSpace image) 3 (startTable image)) ≡ false
-unfolding joinAll changesAll sweepFrom sweepChangesFrom sweeps joinFacts joinCell allKnowNoMore holdsCell recordOf maskOf readCell cellAt putRecord over overDown gives wordsAt some wordPasses allPasses decoded shapeOf slotOf rotateRight resultOf resultFact withCarryFact inSet
+unfolding joinAll changesAll sweepFrom sweepChangesFrom sweeps joinFacts joinCell allKnowNoMore holdsCell recordOf maskOf readCell cellAt putRecord over overDown gives wordsAt some wordPasses allPasses decoded shapeOf slotOf rotateRight lowBits resultOf resultFact withCarryFact inSet
 settled = refl
 
 swept : sweeps (tableSpace image) 3 (startTable image) ≡ table
-unfolding table looping joinAll sweepFrom sweeps joinFacts joinCell recordOf maskOf readCell cellAt putRecord over overDown gives wordsAt some wordPasses allPasses decoded shapeOf slotOf rotateRight resultOf resultFact withCarryFact inSet
+unfolding table looping joinAll sweepFrom sweeps joinFacts joinCell recordOf maskOf readCell cellAt putRecord over overDown gives wordsAt some wordPasses allPasses decoded shapeOf slotOf rotateRight lowBits resultOf resultFact withCarryFact inSet
 swept = refl
 
 witness-least : leastTable image ≡ table

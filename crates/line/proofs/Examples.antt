@@ -8,7 +8,7 @@ use lib.Dec.{ltb}
 use lib.ListN.{getD, replicate, set}
 use borrow.Author.Tests.{ltb-true}
 use Rattle.choice.proofs.Laws.{and-first, and-second}
-use Rattle.field.specs.Field.{rotateRight}
+use Rattle.field.specs.Field.{rotateRight, lowBits}
 use Rattle.word.specs.Word.{decoded}
 use Rattle.map.specs.Map.{inSet, countBelow}
 use Rattle.machine.specs.Shape.{shapeOf, slotOf}
@@ -60,7 +60,7 @@ abbrev filled : List ℕ
 filled = sweeps (tableSpace image) 1 (startTable image)
 
 settled : sweepChanges (tableSpace image) filled ≡ false
-unfolding joinAll changesAll sweepFrom sweepChangesFrom sweeps allKnowNoMore joinFacts resultFact carryFact withCarryFact holdsCell joinCell maskOf recordOf readCell cellAt putRecord over overDown gives wordsAt some wordPasses allPasses decoded shapeOf slotOf rotateRight resultOf
+unfolding joinAll changesAll sweepFrom sweepChangesFrom sweeps allKnowNoMore joinFacts resultFact carryFact withCarryFact holdsCell joinCell maskOf recordOf readCell cellAt putRecord over overDown gives wordsAt some wordPasses allPasses decoded shapeOf slotOf rotateRight lowBits resultOf
 settled = refl
 
 least : leastTable image ≡ filled
@@ -74,12 +74,12 @@ line-of map table = answerLine image map (verdictOf image map table) ++ endText
 
 -- `admitted words 5 left 1 1 right 0 0`
 admitted-line : line-of writable-map filled ≡ 97 ∷ 100 ∷ 109 ∷ 105 ∷ 116 ∷ 116 ∷ 101 ∷ 100 ∷ 32 ∷ 119 ∷ 111 ∷ 114 ∷ 100 ∷ 115 ∷ 32 ∷ 53 ∷ 32 ∷ 108 ∷ 101 ∷ 102 ∷ 116 ∷ 32 ∷ 49 ∷ 32 ∷ 49 ∷ 32 ∷ 114 ∷ 105 ∷ 103 ∷ 104 ∷ 116 ∷ 32 ∷ 48 ∷ 32 ∷ 48 ∷ 10 ∷ []
-unfolding verdictOf decimal countBelow inSet allBelow findingAt firstFinding joinAll changesAll sweepFrom sweepChangesFrom sweeps allKnowNoMore joinFacts resultFact carryFact withCarryFact holdsCell joinCell maskOf recordOf readCell cellAt putRecord over overDown gives wordsAt some wordPasses allPasses decoded shapeOf slotOf rotateRight resultOf
+unfolding verdictOf decimal countBelow inSet allBelow findingAt firstFinding joinAll changesAll sweepFrom sweepChangesFrom sweeps allKnowNoMore joinFacts resultFact carryFact withCarryFact holdsCell joinCell maskOf recordOf readCell cellAt putRecord over overDown gives wordsAt some wordPasses allPasses decoded shapeOf slotOf rotateRight lowBits resultOf
 admitted-line = refl
 
 -- `refused 24 depth 0 address 3`
 refused-line : line-of readable-map filled ≡ 114 ∷ 101 ∷ 102 ∷ 117 ∷ 115 ∷ 101 ∷ 100 ∷ 32 ∷ 50 ∷ 52 ∷ 32 ∷ 100 ∷ 101 ∷ 112 ∷ 116 ∷ 104 ∷ 32 ∷ 48 ∷ 32 ∷ 97 ∷ 100 ∷ 100 ∷ 114 ∷ 101 ∷ 115 ∷ 115 ∷ 32 ∷ 51 ∷ 10 ∷ []
-unfolding verdictOf decimal countBelow inSet allBelow findingAt firstFinding joinAll changesAll sweepFrom sweepChangesFrom sweeps allKnowNoMore joinFacts resultFact carryFact withCarryFact holdsCell joinCell maskOf recordOf readCell cellAt putRecord over overDown gives wordsAt some wordPasses allPasses decoded shapeOf slotOf rotateRight resultOf
+unfolding verdictOf decimal countBelow inSet allBelow findingAt firstFinding joinAll changesAll sweepFrom sweepChangesFrom sweeps allKnowNoMore joinFacts resultFact carryFact withCarryFact holdsCell joinCell maskOf recordOf readCell cellAt putRecord over overDown gives wordsAt some wordPasses allPasses decoded shapeOf slotOf rotateRight lowBits resultOf
 refused-line = refl
 
 pub prints-admitted : lineOf (writable-map ++ image) ≡ 97 ∷ 100 ∷ 109 ∷ 105 ∷ 116 ∷ 116 ∷ 101 ∷ 100 ∷ 32 ∷ 119 ∷ 111 ∷ 114 ∷ 100 ∷ 115 ∷ 32 ∷ 53 ∷ 32 ∷ 108 ∷ 101 ∷ 102 ∷ 116 ∷ 32 ∷ 49 ∷ 32 ∷ 49 ∷ 32 ∷ 114 ∷ 105 ∷ 103 ∷ 104 ∷ 116 ∷ 32 ∷ 48 ∷ 32 ∷ 48 ∷ 10 ∷ []

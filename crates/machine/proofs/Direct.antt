@@ -5,7 +5,7 @@ use mathlib.Core.List.{List}
 use Prim.Native.Nat.{ℕ, _+_, _-_, _*_, _<_, _≤_}
 use lib.ListN.{getD, set}
 use borrow.Author.Tests.{lt-ltb, le-ltb, eq-eqb, ne-eqb}
-use Rattle.field.proofs.Laws.{rotate-none}
+use Rattle.field.proofs.Laws.{whole-byte}
 use Rattle.machine.specs.declared.Sequencer.{Sequencer}
 use Rattle.machine.specs.declared.Effect.{Effect}
 use Rattle.machine.specs.Shape.{Source, register, constant, go, branch, defer, call, return}
@@ -35,12 +35,12 @@ module _ (map bus : List ℕ) (source : Source) (q : Sequencer) (v l s : List �
   branch-taken p e hr hx hz hp he = rw (hr, he, hp, ← hx, ne-eqb x 0 hz)
 
 module _ (map bus : List ℕ) (q : Sequencer) (v l s : List ℕ) where
-  pub called : (i x : ℕ) (e : Effect) → q .depth < 8 → x ≡ getD v 0 0 → e ≡ goEffect (x * 256 + i) (q .depth + 1)
-      → outcome e v l (set s (q .depth) (q .pc + 1)) ≡ wordStep map (go (register 0 0) (call i)) bus (whole q v l s)
+  pub called : (i x : ℕ) (e : Effect) → q .depth < 8 → x ≡ getD v 0 0 → x < 256 → e ≡ goEffect (x * 256 + i) (q .depth + 1)
+      → outcome e v l (set s (q .depth) (q .pc + 1)) ≡ wordStep map (go (register 0 0 0) (call i)) bus (whole q v l s)
   unfolding goState
-  called i x e h hx he = rw (lt-ltb (q .depth) 8 h, he, hx, rotate-none (getD v 0 0))
+  called i x e h hx hb he = rw (lt-ltb (q .depth) 8 h, he, ← hx, whole-byte hb)
 
-  pub full : (i : ℕ) → 8 ≤ q .depth → cameToStop (whole q v l s) 26 ≡ wordStep map (go (register 0 0) (call i)) bus (whole q v l s)
+  pub full : (i : ℕ) → 8 ≤ q .depth → cameToStop (whole q v l s) 26 ≡ wordStep map (go (register 0 0 0) (call i)) bus (whole q v l s)
   full i h = rw (le-ltb (q .depth) 8 h)
 
   pub returned : (e : Effect) → 0 < q .depth → e ≡ goEffect (getD s (q .depth - 1) 0) (q .depth - 1)

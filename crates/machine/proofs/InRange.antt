@@ -15,12 +15,12 @@ use Rattle.word.proofs.Laws.{bank-range, decoded-in-range}
 use Rattle.field.specs.Field.{widthOf}
 use Rattle.state.specs.State.{overflowSlot, EachBelow}
 use Rattle.machine.specs.Shape.{Source, register, bank, constant, Target, slot, latch, Control, jump, branch, defer, call, return, Shape, act, go, invalid}
-use Rattle.machine.specs.Shape.{slotOf, sourceOf, targetOf, placesOf, actShape, shapeOf}
+use Rattle.machine.specs.Shape.{slotOf, sourceOf, targetOf, placesOf, keptOf, actShape, shapeOf}
 use Rattle.machine.specs.Step.{wordAt, shapeAt}
 use Rattle.machine.specs.Parts.{IsPage}
 
 abbrev pub SourceInRange : Source → Type 0
-SourceInRange (register k places) = (k < 11) × (places < 8)
+SourceInRange (register k places kept) = (k < 11) × (places < 8)
 SourceInRange (bank b p l) = (b < 2) × (p < 8) × (l < 8)
 SourceInRange (constant x) = x < 256
 
@@ -31,7 +31,7 @@ TargetInRange (latch b p l) = (b < 2) × (p < 8) × (l < 8)
 
 -- how many values a source may have
 abbrev pub mostValues : Source → ℕ
-mostValues (register k places) = 256
+mostValues (register k places kept) = 256
 mostValues (bank b p l) = 2 ^ widthOf l
 mostValues (constant x) = 1
 
@@ -70,8 +70,8 @@ slot-not-overflow r h =
 
 -- ---- the shape of a word whose fields are in range
 
-source-in-range : (s places l : ℕ) → places < 8 → l < 8 → SourceInRange (sourceOf s places l)
-source-in-range s places l hp hl = pick-both SourceInRange (leb 16 s) (omega arith, omega arith, hl) (slot-lt s, hp)
+source-in-range : (s places kept l : ℕ) → places < 8 → l < 8 → SourceInRange (sourceOf s places kept l)
+source-in-range s places kept l hp hl = pick-both SourceInRange (leb 16 s) (omega arith, omega arith, hl) (slot-lt s, hp)
 
 target-in-range : (d l : ℕ) → l < 8 → (d ≡ 8 → ⊥) → TargetInRange (targetOf d l)
 target-in-range d l hl hd = pick-both TargetInRange (leb 16 d) (omega arith, omega arith, hl) (slot-lt d, slot-not-overflow d hd)
@@ -94,10 +94,10 @@ page-range page p = go (eqb page 256) refl
     go true e = let h = eqb-true page 256 e in (omega arith, omega arith)
     go false e = let h = p (eqb-false page 256 e) in (omega arith, omega arith)
 
-register-page : (s : ℕ) → mostValues (sourceOf s 0 0) ≤ 256
+register-page : (s : ℕ) → mostValues (sourceOf s 0 0 0) ≤ 256
 register-page s = pick-both (λ (source : Source). mostValues source ≤ 256) (leb 16 s) (omega arith) (omega arith)
 
-bank-page : (s l : ℕ) → isBank s ≡ true → 1 ≤ l → l < 6 → mostValues (sourceOf s 0 l) ≤ 32
+bank-page : (s l : ℕ) → isBank s ≡ true → 1 ≤ l → l < 6 → mostValues (sourceOf s 0 0 l) ≤ 32
 bank-page s l b long short =
     let nonzero : eqb l 0 ≡ false = ne-eqb l 0 (λ e. omega arith) in
     let most : 2 ^ l ≤ 32 = pow-mono {j = 5} (omega arith) in
@@ -105,13 +105,13 @@ bank-page s l b long short =
 
 act-in-range : (op s rl d : ℕ) → ActInRange s rl d → ShapeInRange (actShape op s rl d)
 act-in-range op s rl d h = (
-  source-in-range s (placesOf rl d) rl (pick-both (λ (n : ℕ). n < 8) (leb 16 d) (omega arith) (h .1)) (h .1),
+  source-in-range s (placesOf rl d) (keptOf op rl d) rl (pick-both (λ (n : ℕ). n < 8) (leb 16 d) (omega arith) (h .1)) (h .1),
   target-in-range d rl (h .1) (not-listed isTarget refl (h .4)),
 )
 
 -- XEC and NZT of a register: the whole of it
-whole-in-range : (s : ℕ) → SourceInRange (sourceOf s 0 0)
-whole-in-range s = source-in-range s 0 0 (omega arith) (omega arith)
+whole-in-range : (s : ℕ) → SourceInRange (sourceOf s 0 0 0)
+whole-in-range s = source-in-range s 0 0 0 (omega arith) (omega arith)
 
 pub shape-in-range : (w : Word) → InRange w → ShapeInRange (shapeOf w)
 unfolding shapeOf
@@ -120,9 +120,9 @@ shape-in-range (Add s rl d) h = act-in-range 1 s rl d h
 shape-in-range (And s rl d) h = act-in-range 2 s rl d h
 shape-in-range (Xor s rl d) h = act-in-range 3 s rl d h
 shape-in-range (XecRegister s i) h = (whole-in-range s, (page-256, h .2, register-page s))
-shape-in-range (XecBank s l i) h = (source-in-range s 0 l (omega arith) (h .0 .2), (page-32, h .0 .3, bank-page s l (h .0 .1) (h .1) (h .2)))
+shape-in-range (XecBank s l i) h = (source-in-range s 0 0 l (omega arith) (h .0 .2), (page-32, h .0 .3, bank-page s l (h .0 .1) (h .1) (h .2)))
 shape-in-range (NztRegister s i) h = (whole-in-range s, (page-256, h .2))
-shape-in-range (NztBank s l i) h = (source-in-range s 0 l (omega arith) (h .2), (page-32, h .3))
+shape-in-range (NztBank s l i) h = (source-in-range s 0 0 l (omega arith) (h .2), (page-32, h .3))
 shape-in-range (Call i) h = ((omega arith, omega arith), h)
 shape-in-range (Ret i) h = (omega arith, tt)
 shape-in-range (XmitRegister d i) h = (h .2, target-in-range d 0 (omega arith) (not-listed isRegisterTarget refl (h .1)))

@@ -14,7 +14,7 @@ use lib.Seq.{getD-set-same, getD-set-other}
 use Rattle.choice.specs.Choice.{firstNo}
 use Rattle.choice.proofs.Laws.{pick-both, pick-cases, asked-holds, asked-beside}
 use Rattle.field.specs.Field.{carryOf, mergeInto}
-use Rattle.field.proofs.Laws.{rotate-lt, field-lt, merge-lt, sum-lt, carry-lt, and-byte, xor-byte}
+use Rattle.field.proofs.Laws.{rotate-lt, low-lt, field-lt, merge-lt, sum-lt, carry-lt, and-byte, xor-byte}
 use Rattle.state.specs.declared.State.{State}
 use Rattle.state.specs.State.{overflowSlot, stackPlaces, EachBelow, Sized, Formed}
 use Rattle.machine.specs.Shape.{Source, register, bank, constant, Target, slot, latch, Control, jump, branch, defer, call, return, Shape, act, go, invalid}
@@ -48,7 +48,7 @@ four-bytes ha hb hc hd (suc (suc (suc (suc k)))) = omega arith
 
 pub value-lt : (source : Source) (values bus : List ℕ) → SourceInRange source → EachBelow 256 values → EachBelow 256 bus
     → valueOf source values bus < 256
-value-lt (register k places) values bus h hv hb = rotate-lt places (h .1) (hv k)
+value-lt (register k places kept) values bus h hv hb = low-lt kept (rotate-lt places (h .1) (hv k))
 value-lt (bank b p l) values bus h hv hb = field-lt p l (hb b)
 value-lt (constant x) values bus h hv hb = h
 

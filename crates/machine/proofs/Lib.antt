@@ -2,6 +2,7 @@ pub mod Deliver
 pub mod Direct
 pub mod Fetching
 pub mod Values
+pub mod Overflow
 pub mod InRange
 pub mod Keeps
 pub mod Return

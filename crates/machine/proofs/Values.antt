@@ -1,4 +1,5 @@
--- The starred values of "Values to hold against" in document 01, as one list over the definitions.
+-- The starred values of "Values to hold against" in document 01, as one list over the definitions; 0x2993 "now writes 0
+-- with OVF 0" (2026-04 of document 02).
 -- State not named is as after reset, and every map bit is one. Each word is the last of an image whose other words are
 -- 0xE3FF, so that byte order, fetch and question 1 are in it.
 use mathlib.Core.Path.{_≡_, refl}
@@ -11,6 +12,7 @@ use Rattle.map.specs.Map.{inSet}
 use Rattle.state.specs.declared.State.{State}
 use Rattle.machine.specs.Shape.{shapeOf, slotOf}
 use Rattle.machine.specs.Step.{Step, resultOf, withOverflow, actState, goState, stepped}
+use Rattle.machine.specs.Overflow.{steppedWhole}
 
 -- a state after reset but for PC, values and latches
 at : ℕ → List ℕ → List ℕ → State
@@ -41,9 +43,12 @@ jumps : ℕ → List ℕ
 jumps zero = []
 jumps (suc n) = 0xE3 ∷ 0xFF ∷ jumps n
 
--- a step with the word at PC
+-- an image with the word at PC, and a step with it
+image-of : ℕ → State → List ℕ
+image-of w s = jumps (s .pc) ++ w / 256 ∷ w % 256 ∷ []
+
 step-of : ℕ → List ℕ → State → Step
-step-of w bus s = stepped (jumps (s .pc) ++ w / 256 ∷ w % 256 ∷ []) open-map bus s
+step-of w bus s = stepped (image-of w s) open-map bus s
 
 -- AUX and OVF afterwards
 aux : Step → ℕ
@@ -60,12 +65,16 @@ writes o = getD (o .state .latches) 0 0 ∷ getD (o .event) 0 0 ∷ getD (o .eve
 directs : Step → List ℕ
 directs o = o .state .pc ∷ o .state .flag ∷ o .state .pending ∷ o .state .depth ∷ getD (o .state .returns) 0 0 ∷ []
 
+-- AUX 1 and R11 255
+sum-of-256 : State
+sum-of-256 = at 0 (set (set zeros 0 1) 7 255) none
+
 pub starred : List (List ℕ)
 starred =
     (aux (step-of 0x0140 none (at 0 (set zeros 1 0x96) none)) ∷ []) ∷
     writes (step-of 0x0975 none (at 0 (set zeros 7 0xD8) (0xEF ∷ 0 ∷ []))) ∷
     (let o = step-of 0x2000 none (at 0 (set zeros 0 200) none) in aux o ∷ overflow o ∷ []) ∷
-    (let o = step-of 0x2993 none (at 0 (set (set zeros 0 1) 7 255) none) in overflow o ∷ writes o) ∷
+    (let o = step-of 0x2993 none sum-of-256 in overflow o ∷ writes o) ∷
     directs (step-of 0x9476 (0x38 ∷ 0 ∷ []) (at 64 zeros none)) ∷
     directs (step-of 0xA734 none (at 3 (set zeros 0 0x12) none)) ∷
     writes (step-of 0xD586 none (at 0 zeros (0xFF ∷ 0 ∷ []))) ∷
@@ -75,7 +84,12 @@ starred =
     (step-of 0x0008 none (at 0 zeros none) .state .stop ∷ []) ∷ []
 
 pub starred-values : starred ≡
-    (0xA5 ∷ []) ∷ (0xE3 ∷ 3 ∷ 0xE3 ∷ []) ∷ (144 ∷ 1 ∷ []) ∷ (1 ∷ 0 ∷ 3 ∷ 0 ∷ []) ∷ (64 ∷ 1 ∷ 93 ∷ 0 ∷ 0 ∷ []) ∷ (4660 ∷ 0 ∷ 0 ∷ 1 ∷ 4 ∷ []) ∷
+    (0xA5 ∷ []) ∷ (0xE3 ∷ 3 ∷ 0xE3 ∷ []) ∷ (144 ∷ 1 ∷ []) ∷ (0 ∷ 0 ∷ 3 ∷ 0 ∷ []) ∷ (64 ∷ 1 ∷ 93 ∷ 0 ∷ 0 ∷ []) ∷ (4660 ∷ 0 ∷ 0 ∷ 1 ∷ 4 ∷ []) ∷
     (0xDB ∷ 3 ∷ 0xDB ∷ []) ∷ (0x1F ∷ 3 ∷ 0x1F ∷ []) ∷ (0xFF ∷ 3 ∷ 0xFF ∷ []) ∷ (1074 ∷ 0 ∷ 0 ∷ 0 ∷ 0 ∷ []) ∷ (22 ∷ []) ∷ []
-unfolding starred step-of jumps at zeros none open-map aux overflow writes directs stepped rotateRight lowBits fieldOf mergeInto decoded inSet shapeOf slotOf resultOf withOverflow actState goState
+unfolding starred step-of image-of sum-of-256 jumps at zeros none open-map aux overflow writes directs stepped rotateRight lowBits fieldOf mergeInto decoded inSet shapeOf slotOf resultOf withOverflow actState goState
 starred-values = refl
+
+-- Document 01 had OVF 1 there: the mask does change OVF.
+overflow-before : overflow (steppedWhole (image-of 0x2993 sum-of-256) open-map none sum-of-256) ≡ 1
+unfolding image-of sum-of-256 jumps at zeros none open-map overflow rotateRight lowBits mergeInto decoded inSet shapeOf slotOf resultOf withOverflow actState
+overflow-before = refl

@@ -1,3 +1,4 @@
 pub mod Shape
 pub mod Step
+pub mod Overflow
 pub mod Parts

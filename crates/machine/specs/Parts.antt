@@ -11,7 +11,7 @@ use Rattle.state.specs.State.{stackPlaces}
 use Rattle.machine.specs.declared.Sequencer.{Sequencer}
 use Rattle.machine.specs.declared.Effect.{Effect}
 use Rattle.machine.specs.declared.act.Delivery.{Delivery}
-use Rattle.machine.specs.Shape.{Source, constant, Target, Shape, act, sourceOf, targetOf, placesOf}
+use Rattle.machine.specs.Shape.{Source, constant, Target, Shape, act, sourceOf, targetOf, placesOf, keptOf}
 use Rattle.machine.specs.Step.{Outcome, resultOf, actState, targetEvent, mayWrite, mayChoose, cameToStop}
 
 -- the state of a machine that is not stopped, from its sequencer, values, latches and call stack
@@ -114,7 +114,7 @@ abbrev pub transmissionOf : ℕ → ℕ → ℕ → Delivery
 transmissionOf d l i = deliveryOf 1 0 0 l d i
 
 abbrev pub deliverySource : Delivery → Source
-deliverySource a = pick (eqb (a .kind) 1) (constant (a .i)) (sourceOf (a .s) (placesOf (a .rl) (a .d)) (a .rl))
+deliverySource a = pick (eqb (a .kind) 1) (constant (a .i)) (sourceOf (a .s) (placesOf (a .rl) (a .d)) (keptOf (a .op) (a .rl) (a .d)) (a .rl))
 
 abbrev pub shapeOfDelivery : Delivery → Shape
 shapeOfDelivery a = act (deliverySource a) (a .op) (targetOf (a .d) (a .rl))

@@ -8,8 +8,8 @@ use Rattle.word.specs.declared.Word.the-variants.{Move, Add, And, Xor, XecRegis
 
 -- Where a word takes its source from.
 pub data Source : Type 0 where
-  -- the register at a slot, rotated right by some places
-  register : ℕ → ℕ → Source
+  -- the register at a slot, rotated right by some places, then the low bits of a length
+  register : ℕ → ℕ → ℕ → Source
   -- a bank's byte: the field at a bit position, of a length
   bank : ℕ → ℕ → ℕ → Source
   -- a constant of the word
@@ -50,9 +50,9 @@ bankOf r = r / 8 % 2
 abbrev pub positionOf : ℕ → ℕ
 positionOf r = r % 8
 
--- a source by its number: the register rotated by some places, or the bank's field of length l
-abbrev pub sourceOf : ℕ → ℕ → ℕ → Source
-sourceOf s places l = pick (leb 16 s) (bank (bankOf s) (positionOf s) l) (register (slotOf s) places)
+-- a source by its number: the register rotated by some places and kept to a length, or the bank's field of length l
+abbrev pub sourceOf : ℕ → ℕ → ℕ → ℕ → Source
+sourceOf s places kept l = pick (leb 16 s) (bank (bankOf s) (positionOf s) l) (register (slotOf s) places kept)
 
 -- a target by its number, with length l in a bank
 abbrev pub targetOf : ℕ → ℕ → Target
@@ -62,9 +62,14 @@ targetOf d l = pick (leb 16 d) (latch (bankOf d) (positionOf d) l) (slot (slotOf
 abbrev pub placesOf : ℕ → ℕ → ℕ
 placesOf rl d = pick (leb 16 d) 0 rl
 
+-- ADD alone: "keeps the low L bits of a register source before the sum when the destination is a bank" (2026-04 of
+-- document 02). All eight, length 0, to a register or a bus address, and in every other word.
+abbrev pub keptOf : ℕ → ℕ → ℕ → ℕ
+keptOf op rl d = pick (eqb op 1) (pick (leb 16 d) rl 0) 0
+
 -- opcodes 0-3
 abbrev pub actShape : ℕ → ℕ → ℕ → ℕ → Shape
-actShape op s rl d = act (sourceOf s (placesOf rl d) rl) op (targetOf d rl)
+actShape op s rl d = act (sourceOf s (placesOf rl d) (keptOf op rl d) rl) op (targetOf d rl)
 
 -- XEC and NZT take the whole register, or the bank's field; CALL takes AUX as its page; RET's low byte is ignored
 -- (document 02, 2026-01)
@@ -73,11 +78,11 @@ shapeOf (Move s rl d) = actShape 0 s rl d
 shapeOf (Add s rl d) = actShape 1 s rl d
 shapeOf (And s rl d) = actShape 2 s rl d
 shapeOf (Xor s rl d) = actShape 3 s rl d
-shapeOf (XecRegister s i) = go (sourceOf s 0 0) (defer 256 i)
-shapeOf (XecBank s l i) = go (sourceOf s 0 l) (defer 32 i)
-shapeOf (NztRegister s i) = go (sourceOf s 0 0) (branch 256 i)
-shapeOf (NztBank s l i) = go (sourceOf s 0 l) (branch 32 i)
-shapeOf (Call i) = go (register 0 0) (call i)
+shapeOf (XecRegister s i) = go (sourceOf s 0 0 0) (defer 256 i)
+shapeOf (XecBank s l i) = go (sourceOf s 0 0 l) (defer 32 i)
+shapeOf (NztRegister s i) = go (sourceOf s 0 0 0) (branch 256 i)
+shapeOf (NztBank s l i) = go (sourceOf s 0 0 l) (branch 32 i)
+shapeOf (Call i) = go (register 0 0 0) (call i)
 shapeOf (Ret i) = go (constant 0) return
 shapeOf (XmitRegister d i) = act (constant i) 0 (targetOf d 0)
 shapeOf (XmitBank d l i) = act (constant i) 0 (targetOf d l)

@@ -5,7 +5,7 @@ use Prim.Native.Nat.{ℕ, _+_, _-_, _*_, _/_, _%_}
 use lib.Dec.{leb, ltb, eqb}
 use lib.ListN.{length, getD, set}
 use Rattle.choice.specs.Choice.{pick, Question, ask, asked}
-use Rattle.field.specs.Field.{rotateRight, fieldOf, mergeInto, sumOf, carryOf, andOf, xorOf}
+use Rattle.field.specs.Field.{rotateRight, lowBits, fieldOf, mergeInto, sumOf, carryOf, andOf, xorOf}
 use Rattle.word.specs.Word.{decoded}
 use Rattle.map.specs.Map.{readable, writable, listed}
 use Rattle.state.specs.declared.State.{State}
@@ -24,7 +24,7 @@ shapeAt image a = shapeOf (decoded (wordAt image a))
 
 -- Source. The bus is a step's left and right byte.
 abbrev pub valueOf : Source → List ℕ → List ℕ → ℕ
-valueOf (register k places) values bus = rotateRight places (getD values k 0)
+valueOf (register k places kept) values bus = lowBits kept (rotateRight places (getD values k 0))
 valueOf (bank b p l) values bus = fieldOf p l (getD bus b 0)
 valueOf (constant x) values bus = x
 
@@ -109,7 +109,7 @@ executed invalid bus s = s
 
 -- "A word reads a bank when it has an S in 20-37": is that bank's address readable?
 abbrev pub mayRead : List ℕ → Source → List ℕ → Bool
-mayRead map (register k places) values = true
+mayRead map (register k places kept) values = true
 mayRead map (bank b p l) values = readable map b (getD values (addressSlot b) 0)
 mayRead map (constant x) values = true
 
@@ -150,10 +150,13 @@ wordQuestions map invalid bus s = ask 22 false ∷ []
 abbrev pub fetchAddress : State → ℕ
 fetchAddress s = pick (eqb (s .flag) 1) (s .pending) (s .pc)
 
--- All seven, question 1 being whether the fetch address is below N.
+-- All seven of a word of this shape, question 1 being whether the fetch address is below N.
+abbrev pub shapeQuestions : Shape → List ℕ → List ℕ → List ℕ → State → List Question
+shapeQuestions shape image map bus s = ask 21 (ltb (fetchAddress s) (wordCount image)) ∷ wordQuestions map shape bus s
+
+-- of the word that is fetched
 abbrev pub stepQuestions : List ℕ → List ℕ → List ℕ → State → List Question
-stepQuestions image map bus s =
-    ask 21 (ltb (fetchAddress s) (wordCount image)) ∷ wordQuestions map (shapeAt image (fetchAddress s)) bus s
+stepQuestions image map bus s = shapeQuestions (shapeAt image (fetchAddress s)) image map bus s
 
 -- "A stop sets the stop number and changes nothing else."
 abbrev pub stopped : State → ℕ → State
@@ -212,10 +215,11 @@ pub record Step : Type 0 where
 abbrev pub stepFrom : State → Outcome → Step
 stepFrom s o = record { state = o .state; event = o .event; pc = s .pc; fetch = fetchAddress s }
 
--- One step of a machine that is not stopped.
+-- One step of a machine that is not stopped, where the word has this shape.
+abbrev pub shapeStepped : Shape → List ℕ → List ℕ → List ℕ → State → Step
+shapeStepped shape image map bus s =
+    stepFrom s (asked (shapeQuestions shape image map bus s) (wentOn shape (executed shape bus s)) (cameToStop s))
+
+-- One step, with the word that is fetched.
 unfoldable pub stepped : List ℕ → List ℕ → List ℕ → State → Step
-stepped image map bus s =
-    stepFrom s
-    (asked (stepQuestions image map bus s)
-    (wentOn (shapeAt image (fetchAddress s)) (executed (shapeAt image (fetchAddress s)) bus s))
-    (cameToStop s))
+stepped image map bus s = shapeStepped (shapeAt image (fetchAddress s)) image map bus s

@@ -4,7 +4,7 @@ ghost use mathlib.Core.List.{List, [], _∷_};
 ghost use Prim.Native.Nat.{ℕ, _<_};
 ghost use lib.ListN.{length, getD};
 ghost use Rattle.map.specs.Map.{mapLength};
-ghost use Rattle.machine.specs.Shape.{slotOf, sourceOf, targetOf, slot, latch, bankOf, positionOf, placesOf};
+ghost use Rattle.machine.specs.Shape.{slotOf, sourceOf, targetOf, slot, latch, bankOf, positionOf, placesOf, keptOf};
 ghost use Rattle.machine.specs.Step.{valueOf, resultOf, withOverflow, mayRead, wordStep};
 ghost use Rattle.machine.specs.Parts.{whole, outcome, actEffect, delivered, deliverySource, shapeOfDelivery, Ready};
 use crate::Effect;
@@ -46,7 +46,7 @@ fn bus_byte(left: u8, right: u8, bank: usize) -> u8
 // Where the source is a bank: is the bank's address readable?
 pub fn may_read(map: &[u8], values: &[u8; 11], s: usize) -> bool
     requires { ⌜ length (now map) ≡ mapLength ⌝ }
-    ensures { λ r. ⌜ ((places l : ℕ) → r ≡ mayRead (now (map .entry)) (sourceOf s places l) (now (values .entry))) ⌝ }
+    ensures { λ r. ⌜ ((places kept l : ℕ) → r ≡ mayRead (now (map .entry)) (sourceOf s places kept l) (now (values .entry))) ⌝ }
 {
     if s < word::FIRST_BANK {
         return true;
@@ -55,14 +55,22 @@ pub fn may_read(map: &[u8], values: &[u8; 11], s: usize) -> bool
     map::readable(map, bank, wide(values[state::ADDRESS + bank]))
 }
 
-// The source: a register rotated by places, or a bank's field of length l.
-pub fn operand(values: &[u8; 11], left: u8, right: u8, s: usize, places: usize, l: usize) -> u8
-    requires { ⌜ (places < 8) × (l < 8) ⌝ }
-    ensures { λ r. ⌜ r ≡ valueOf (sourceOf s places l) (now (values .entry)) (left ∷ right ∷ []) ⌝ }
+// The source: a register rotated by places and kept to a length, or a bank's field of length l.
+pub fn operand(
+    values: &[u8; 11],
+    left: u8,
+    right: u8,
+    s: usize,
+    places: usize,
+    kept: usize,
+    l: usize,
+) -> u8
+    requires { ⌜ (places < 8) × (kept < 8) × (l < 8) ⌝ }
+    ensures { λ r. ⌜ r ≡ valueOf (sourceOf s places kept l) (now (values .entry)) (left ∷ right ∷ []) ⌝ }
 {
     if s < word::FIRST_BANK {
         let k = slot_of(s);
-        return field::rotate(values[k], places);
+        return field::low(field::rotate(values[k], places), kept);
     }
     field::field(bus_byte(left, right, s / 8 % 2), s % 8, l)
 }
@@ -189,6 +197,17 @@ pub fn places(rl: usize, d: usize) -> usize
     if d < word::FIRST_BANK { rl } else { 0 }
 }
 
+// ADD to a bank keeps the low bits of a register before the sum; length 0 keeps all eight.
+pub fn kept(op: usize, rl: usize, d: usize) -> usize
+    requires { ⌜ rl < 8 ⌝ }
+    ensures { λ r. ⌜ (r ≡ keptOf op rl d) × (r < 8) ⌝ }
+{
+    if op != 1 {
+        return 0;
+    }
+    if d < word::FIRST_BANK { 0 } else { rl }
+}
+
 // A word that delivers a source to a target: where kind is 0 the source s, where it is 1 the constant i.
 pub struct Delivery {
     pub kind: usize,
@@ -220,7 +239,15 @@ fn argument(values: &[u8; 11], left: u8, right: u8, a: Delivery) -> u8
     if kind == 1 {
         return crate::narrow(a.i);
     }
-    operand(values, left, right, a.s, places(a.rl, a.d), a.rl)
+    operand(
+        values,
+        left,
+        right,
+        a.s,
+        places(a.rl, a.d),
+        kept(a.op, a.rl, a.d),
+        a.rl,
+    )
 }
 
 // MOVE, ADD, AND, XOR, XMIT.

@@ -81,12 +81,12 @@ pub fn xec(
     values: &[u8; 11],
 ) -> Effect
     requires { ⌜ Ready (now map) q × (l < 8) × IsPage page × (i < 256) ⌝ }
-    ensures { λ r. ⌜ ((a b : List ℕ) → outcome r (now (values .entry)) a b ≡ wordStep (now (map .entry)) (go (sourceOf s 0 l) (defer page i)) (left ∷ right ∷ []) (whole q (now (values .entry)) a b)) ⌝ }
+    ensures { λ r. ⌜ ((a b : List ℕ) → outcome r (now (values .entry)) a b ≡ wordStep (now (map .entry)) (go (sourceOf s 0 0 l) (defer page i)) (left ∷ right ∷ []) (whole q (now (values .entry)) a b)) ⌝ }
 {
     if !crate::act::may_read(map, values, s) {
         return crate::stop(q, 23);
     }
-    let x = wide(crate::act::operand(values, left, right, s, 0, l));
+    let x = wide(crate::act::operand(values, left, right, s, 0, 0, l));
     defer_to(q, in_page(page, q.pc, i + x))
 }
 
@@ -103,12 +103,12 @@ pub fn nzt(
     values: &[u8; 11],
 ) -> Effect
     requires { ⌜ Ready (now map) q × (l < 8) × IsPage page ⌝ }
-    ensures { λ r. ⌜ ((a b : List ℕ) → outcome r (now (values .entry)) a b ≡ wordStep (now (map .entry)) (go (sourceOf s 0 l) (branch page i)) (left ∷ right ∷ []) (whole q (now (values .entry)) a b)) ⌝ }
+    ensures { λ r. ⌜ ((a b : List ℕ) → outcome r (now (values .entry)) a b ≡ wordStep (now (map .entry)) (go (sourceOf s 0 0 l) (branch page i)) (left ∷ right ∷ []) (whole q (now (values .entry)) a b)) ⌝ }
 {
     if !crate::act::may_read(map, values, s) {
         return crate::stop(q, 23);
     }
-    let x = crate::act::operand(values, left, right, s, 0, l);
+    let x = crate::act::operand(values, left, right, s, 0, 0, l);
     if x == 0 {
         return go_to(q.pc + 1, q.depth);
     }
@@ -118,7 +118,7 @@ pub fn nzt(
 // CALL: the page is AUX.
 pub fn call(i: usize, q: Sequencer, values: &[u8; 11], returns: &mut [u16; 8]) -> Effect
     requires { ⌜ (q .pc < 8192) × (q .depth ≤ 8) × (i < 256) ⌝ }
-    ensures { λ r. ⌜ ((map bus l : List ℕ) → outcome r (now (values .entry)) l (now (returns .exit)) ≡ wordStep map (go (register 0 0) (call i)) bus (whole q (now (values .entry)) l (now (returns .entry)))) ⌝ }
+    ensures { λ r. ⌜ ((map bus l : List ℕ) → outcome r (now (values .entry)) l (now (returns .exit)) ≡ wordStep map (go (register 0 0 0) (call i)) bus (whole q (now (values .entry)) l (now (returns .entry)))) ⌝ }
 {
     let depth = q.depth;
     if depth == state::PLACES {

@@ -20,9 +20,9 @@ use Rattle.processor.specs.declared.Fetched.the-variants.{Valid, Invalid
 abbrev pub shapeIs : Form → Shape
 shapeIs (Act a) = shapeOfDelivery a
 shapeIs (Jump a) = go (constant 0) (jump a)
-shapeIs (Branch s l page i) = go (sourceOf s 0 l) (branch page i)
-shapeIs (Defer s l page i) = go (sourceOf s 0 l) (defer page i)
-shapeIs (Call i) = go (register 0 0) (call i)
+shapeIs (Branch s l page i) = go (sourceOf s 0 0 l) (branch page i)
+shapeIs (Defer s l page i) = go (sourceOf s 0 0 l) (defer page i)
+shapeIs (Call i) = go (register 0 0 0) (call i)
 shapeIs Return = go (constant 0) return
 shapeIs Invalid = invalid
 

@@ -62,9 +62,9 @@ module _ (image : List ℕ) (depth : ℕ) (facts : List ℕ) (i : ℕ) (low : �
 
 -- all of them, at a depth below 8
 pub call-passed : (image : List ℕ) (depth pc : ℕ) (facts : List ℕ) (i : ℕ) (v : Values) (n : ℕ) {t u : List ℕ} {r : Bool}
-    → spanIs v ≡ spanOf (sourceOf 0 0 0) facts → depth < 8 → n ≡ v .count
+    → spanIs v ≡ spanOf (sourceOf 0 0 0 0) facts → depth < 8 → n ≡ v .count
     → Passed image depth t (calledTo (wordCount image) depth facts i (v .low) n) u r
-    → Passed image depth t (wordPasses (wordCount image) depth pc facts (go (register 0 0) (call i))) u r
+    → Passed image depth t (wordPasses (wordCount image) depth pc facts (go (register 0 0 0) (call i))) u r
 unfolding wordPasses slotOf
 call-passed image depth pc facts i v n {t = t} {u = u} {r = r} e h all p =
     rw (lt-ltb depth stackPlaces h)
@@ -73,7 +73,7 @@ call-passed image depth pc facts i v n {t = t} {u = u} {r = r} e h all p =
 
 -- none at depth 8
 pub call-none : (image : List ℕ) (depth pc : ℕ) (facts : List ℕ) (i : ℕ) (t : List ℕ) → depth ≡ 8 → Layout (depths * wordCount image) t
-    → Passed image depth t (wordPasses (wordCount image) depth pc facts (go (register 0 0) (call i))) t false
+    → Passed image depth t (wordPasses (wordCount image) depth pc facts (go (register 0 0 0) (call i))) t false
 unfolding wordPasses
 call-none image depth pc facts i t e g = rw (le-ltb depth stackPlaces (omega arith)) (passed-none g)
 

@@ -86,7 +86,7 @@ fn pass_branch(
     i: usize,
 ) -> bool
     requires { ⌜ Laid (now image) (now table) × (depth < 9) × InImage (now image) pc × Bounded facts × (l < 8) × IsPage page ⌝ }
-    ensures { λ r. ⌜ Passed (now (image .entry)) depth (now (table .entry)) (wordPasses (wordCount (now (image .entry))) depth pc facts (go (sourceOf s 0 l) (branch page i))) (now (table .exit)) r ⌝ }
+    ensures { λ r. ⌜ Passed (now (image .entry)) depth (now (table .entry)) (wordPasses (wordCount (now (image .entry))) depth pc facts (go (sourceOf s 0 0 l) (branch page i))) (now (table .exit)) r ⌝ }
 {
     let v = callers::values_of(facts, s, l);
     let on = pass_if(image, table, depth, pc + 1, facts, v.low == 0);
@@ -105,7 +105,7 @@ fn pass_call(
     i: usize,
 ) -> bool
     requires { ⌜ Laid (now image) (now table) × (depth < 9) × Bounded facts × (i < 256) ⌝ }
-    ensures { λ r. ⌜ Passed (now (image .entry)) depth (now (table .entry)) (wordPasses (wordCount (now (image .entry))) depth pc facts (go (register 0 0) (call i))) (now (table .exit)) r ⌝ }
+    ensures { λ r. ⌜ Passed (now (image .entry)) depth (now (table .entry)) (wordPasses (wordCount (now (image .entry))) depth pc facts (go (register 0 0 0) (call i))) (now (table .exit)) r ⌝ }
 {
     if depth == state::PLACES {
         return false;
@@ -197,7 +197,7 @@ fn pass_executed(
     i: usize,
 ) -> bool
     requires { ⌜ Laid (now image) (now table) × (depth < 9) × InImage (now image) pc × Bounded facts × (l < 8) × IsPage page × (i < 256) ⌝ }
-    ensures { λ r. ⌜ Passed (now (image .entry)) depth (now (table .entry)) (allPasses (wordCount (now (image .entry))) depth pc facts (wordsAt (now (image .entry)) pc facts (go (sourceOf s 0 l) (defer page i)))) (now (table .exit)) r ⌝ }
+    ensures { λ r. ⌜ Passed (now (image .entry)) depth (now (table .entry)) (allPasses (wordCount (now (image .entry))) depth pc facts (wordsAt (now (image .entry)) pc facts (go (sourceOf s 0 0 l) (defer page i)))) (now (table .exit)) r ⌝ }
 {
     let v = callers::values_of(facts, s, l);
     let mut changed = false;

@@ -4,7 +4,7 @@ use mathlib.Core.List.{List, [], _∷_}
 use Prim.Native.Nat.{ℕ, _*_}
 use lib.ListN.{replicate, set}
 use Rattle.choice.specs.Choice.{pick}
-use Rattle.field.specs.Field.{rotateRight}
+use Rattle.field.specs.Field.{rotateRight, lowBits}
 use Rattle.word.specs.Word.{decoded}
 use Rattle.map.specs.Map.{inSet}
 use Rattle.machine.specs.Shape.{shapeOf, slotOf}
@@ -35,6 +35,10 @@ only at byte = set (replicate 128 0) at byte
 -- the image of the paper's bench example: XMIT 5 to the left address, NZT of left bit 3, a write at address 5
 panel : List ℕ
 panel = 0xC7 ∷ 0x05 ∷ 0xB7 ∷ 0x23 ∷ 0xE0 ∷ 0x01 ∷ 0xD7 ∷ 0x21 ∷ 0xE0 ∷ 0x01 ∷ []
+
+-- XMIT 1 to AUX, XMIT 255 to R11, ADD of R11 to a left field of 4 bits: OVF is 0, with the whole register it was 1
+summed : List ℕ → List ℕ
+summed rest = 0xC0 ∷ 0x01 ∷ 0xC9 ∷ 0xFF ∷ 0x29 ∷ 0x93 ∷ rest
 
 examples : List (List ℕ)
 examples =
@@ -68,12 +72,20 @@ examples =
     after-sweeps 0 (0x80 ∷ 0x00 ∷ 0xE0 ∷ 0x00 ∷ []) open-map ∷
     after-sweeps 1 (0x97 ∷ 0x22 ∷ 0xE0 ∷ 0x00 ∷ 0x00 ∷ 0x00 ∷ 0xCF ∷ 0x0A ∷ []) (set (only 0 1) 65 2) ∷
     -- 28 at depth 1, address 1, in a routine, and 22 at depth 0, address 4, where it returns: the lower depth (2026-02)
-    after-sweeps 1 (0xE0 ∷ 0x03 ∷ 0x17 ∷ 0x07 ∷ 0xAF ∷ 0x00 ∷ 0xA7 ∷ 0x01 ∷ 0x00 ∷ 0x08 ∷ []) open-map ∷ []
+    after-sweeps 1 (0xE0 ∷ 0x03 ∷ 0x17 ∷ 0x07 ∷ 0xAF ∷ 0x00 ∷ 0xA7 ∷ 0x01 ∷ 0x00 ∷ 0x08 ∷ []) open-map ∷
+    -- NZT of OVF after a sum that the mask keeps below 256 (2026-04): it goes on and does not branch to 9, which lies
+    -- outside; and it does not branch back to 0, but goes on past the last word
+    after-sweeps 1 (summed (0xA8 ∷ 0x09 ∷ 0xE0 ∷ 0x04 ∷ [])) open-map ∷
+    after-sweeps 1 (summed (0xA8 ∷ 0x00 ∷ [])) open-map ∷
+    -- XEC of that OVF: the word at 4 is executed and not the one at 5, of which one is invalid
+    after-sweeps 1 (summed (0x88 ∷ 0x04 ∷ 0xE0 ∷ 0x03 ∷ 0x00 ∷ 0x08 ∷ [])) open-map ∷
+    after-sweeps 1 (summed (0x88 ∷ 0x04 ∷ 0x00 ∷ 0x08 ∷ 0xE0 ∷ 0x03 ∷ [])) open-map ∷ []
 
 told-examples : examples ≡
     (0 ∷ 9 ∷ 0 ∷ []) ∷ (0 ∷ 45 ∷ 0 ∷ []) ∷ (0 ∷ 3 ∷ 24 ∷ []) ∷
     (0 ∷ 0 ∷ 21 ∷ []) ∷ (0 ∷ 0 ∷ 21 ∷ []) ∷ (0 ∷ 18 ∷ 0 ∷ []) ∷ (0 ∷ 0 ∷ 21 ∷ []) ∷
     (0 ∷ 0 ∷ 22 ∷ []) ∷ (0 ∷ 1 ∷ 23 ∷ []) ∷ (0 ∷ 0 ∷ 25 ∷ []) ∷ (0 ∷ 16 ∷ 26 ∷ []) ∷
-    (0 ∷ 0 ∷ 27 ∷ []) ∷ (0 ∷ 27 ∷ 0 ∷ []) ∷ (0 ∷ 0 ∷ 27 ∷ []) ∷ (0 ∷ 27 ∷ 0 ∷ []) ∷ (0 ∷ 0 ∷ 28 ∷ []) ∷ (0 ∷ 0 ∷ 29 ∷ []) ∷ (0 ∷ 0 ∷ 25 ∷ []) ∷ (0 ∷ 4 ∷ 22 ∷ []) ∷ []
-unfolding examples after-sweeps told open-map only panel firstFinding inSet allBelow findingAt rotateRight decoded shapeOf slotOf resultOf joinAll changesAll sweepFrom sweepChangesFrom sweeps allKnowNoMore joinFacts resultFact carryFact withCarryFact holdsCell joinCell maskOf recordOf readCell cellAt putRecord over overDown gives wordsAt some wordPasses allPasses
+    (0 ∷ 0 ∷ 27 ∷ []) ∷ (0 ∷ 27 ∷ 0 ∷ []) ∷ (0 ∷ 0 ∷ 27 ∷ []) ∷ (0 ∷ 27 ∷ 0 ∷ []) ∷ (0 ∷ 0 ∷ 28 ∷ []) ∷ (0 ∷ 0 ∷ 29 ∷ []) ∷ (0 ∷ 0 ∷ 25 ∷ []) ∷ (0 ∷ 4 ∷ 22 ∷ []) ∷
+    (0 ∷ 45 ∷ 0 ∷ []) ∷ (0 ∷ 3 ∷ 21 ∷ []) ∷ (0 ∷ 54 ∷ 0 ∷ []) ∷ (0 ∷ 3 ∷ 22 ∷ []) ∷ []
+unfolding examples after-sweeps told open-map only panel summed firstFinding inSet allBelow findingAt rotateRight lowBits decoded shapeOf slotOf resultOf joinAll changesAll sweepFrom sweepChangesFrom sweeps allKnowNoMore joinFacts resultFact carryFact withCarryFact holdsCell joinCell maskOf recordOf readCell cellAt putRecord over overDown gives wordsAt some wordPasses allPasses
 told-examples = refl

@@ -56,7 +56,7 @@ first [] s = inl refl
 first (q ∷ qs) (also h s) = pick-both (λ (n : ℕ). (n ≡ 0) ⊎ Number n) (q .answer) (first qs s) (inr h)
 
 read : (map : List ℕ) (source : Source) (facts : List ℕ) → Numbered (readQuestions map source facts)
-read map (register k places) facts = none
+read map (register k places kept) facts = none
 read map (bank b p l) facts = also n28 (also n23 none)
 read map (constant x) facts = none
 

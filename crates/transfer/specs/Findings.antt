@@ -16,7 +16,7 @@ use Rattle.transfer.specs.Passes.{over, isDefer, pageAddress, gives, isC
 
 -- 2. "Read: is the address known? 28. Readable? 23"
 abbrev pub readQuestions : List ℕ → Source → List ℕ → List Question
-readQuestions map (register k places) facts = []
+readQuestions map (register k places kept) facts = []
 readQuestions map (bank b p l) facts =
     ask 28 (isKnown (getD facts (addressSlot b) unknown)) ∷ ask 23 (readable map b (getD facts (addressSlot b) unknown)) ∷ []
 readQuestions map (constant x) facts = []

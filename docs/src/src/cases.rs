@@ -14,6 +14,7 @@
 pub mod admissions;
 pub mod library;
 pub mod runs;
+pub mod sums;
 pub mod values;
 pub mod words;
 

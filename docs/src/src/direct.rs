@@ -110,9 +110,13 @@ impl Core {
         }
         let source = if s >= 16 {
             field(bus, s, l)
+        } else if d < 16 {
+            self.registers[s].rotate_right(l as u32)
+        } else if word >> 13 == 1 {
+            // ADD masks a register before the sum (2026-04).
+            self.registers[s] & ones(l) as u8
         } else {
-            let places = if d < 16 { l as u32 } else { 0 };
-            self.registers[s].rotate_right(places)
+            self.registers[s]
         };
         let aux = self.registers[AUX];
         let (sum, carry) = aux.overflowing_add(source);

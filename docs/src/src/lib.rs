@@ -10,6 +10,8 @@ pub mod direct;
 pub mod machine;
 pub mod map;
 pub mod naive;
+#[cfg(test)]
+mod old_sum;
 pub mod programs;
 pub mod run;
 pub mod stored;

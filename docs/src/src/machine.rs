@@ -178,9 +178,19 @@ pub fn merge(latch: u8, value: u8, position: u16, l: u16) -> u8 {
     ((moved & mask) | (u16::from(latch) & !mask)) as u8
 }
 
+/// What ADD sums of a register on its way to a bank: its low L bits (2026-04).
+fn summed(register: u8, l: u16) -> u8 {
+    #[cfg(test)]
+    if crate::old_sum::in_force() {
+        return register;
+    }
+    low_bits(register, width_of(l))
+}
+
 /// The source value of a word; I for XMIT.
 pub fn source_value(state: &State, word: Word, bus: [u8; 2]) -> u8 {
     match word {
+        Word::Add { s, rl, d } if !is_bank(s) && is_bank(d) => summed(state.register(s), rl),
         Word::Move { s, rl, d }
         | Word::Add { s, rl, d }
         | Word::And { s, rl, d }

@@ -116,6 +116,10 @@ impl Program {
             let places = if target < 16 { word >> 5 & 7 } else { 0 };
             let twice = u32::from(facts.1[PLACE[number]]) * 257;
             source = twice >> places & 255;
+            let length = word >> 5 & 7;
+            if opcode == 1 && target >= 16 && length > 0 {
+                source %= 1 << length; // before the sum (2026-04); length 0 keeps all eight bits
+            }
         }
         let aux = u32::from(facts.1[0]);
         let result = [source, aux + source, aux & source, aux ^ source, 0, 0, source];

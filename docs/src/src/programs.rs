@@ -171,6 +171,45 @@ fn random_alu(random: &mut Random) -> Word {
     }
 }
 
+/// A word that reads OVF, and what it may skip or execute.
+fn read_overflow(random: &mut Random, at: u16, executes: bool) -> Vec<Word> {
+    let (rl, next) = (random.below(8) as u16, random_alu(random));
+    match random.below(if executes { 4 } else { 3 }) {
+        0 => vec![Move { s: 0o10, rl, d: bank_field(random) }, next],
+        1 => {
+            let d = if random.chance(50) { bank_field(random) } else { register(random) };
+            vec![Add { s: 0o10, rl, d }, next]
+        }
+        2 => vec![NztRegister { s: 0o10, i: at + 2 }, next],
+        _ => {
+            let xec = XecRegister { s: 0o10, i: at + 2 };
+            vec![xec, Jmp { a: at + 4 }, next, random_alu(random)]
+        }
+    }
+}
+
+/// A loop of groups: AUX and a register take constants or bytes of a bank, their
+/// sum goes to a bank, and OVF is read. All in one page; it is admitted with
+/// every map bit, unless `loose` lets an XEC read an OVF that is not known.
+pub fn sum_words(random: &mut Random, groups: usize, loose: bool) -> Vec<u16> {
+    let mut words = vec![XmitRegister { d: 0o07, i: 5 }, XmitRegister { d: 0o17, i: 9 }];
+    for _ in 0..groups {
+        let (s, known) = (register(random), random.chance(50));
+        for d in [s, 0] {
+            words.push(match known {
+                true => XmitRegister { d, i: random.below(256) as u16 },
+                false => Move { s: bank_field(random), rl: 0, d },
+            });
+        }
+        words.push(Add { s, rl: random.below(8) as u16, d: bank_field(random) });
+        let reader = read_overflow(random, words.len() as u16, known || loose);
+        words.extend(reader);
+    }
+    words.push(Jmp { a: 2 });
+    assert!(words.len() <= 256);
+    assemble(&words)
+}
+
 /// NZT, JMP or XEC to an address of the same block.
 fn random_branch(random: &mut Random, from: usize, to: usize, at: usize) -> Word {
     let inside = from + random.below(to - from);

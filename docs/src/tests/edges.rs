@@ -127,6 +127,28 @@ fn add_alone_sets_ovf() {
 }
 
 #[test]
+fn add_masks_a_register_on_its_way_to_a_bank_alone() {
+    let sum = |s, rl, d, aux| {
+        let mut state = fresh();
+        (state.registers[0], state.registers[1]) = (aux, 0xff);
+        one(word(Add { s, rl, d }), state, [0xff, 0xff]).0.ovf
+    };
+    for l in 1..8 {
+        // The low L bits of a register or of a bank, and an AUX that is not masked.
+        let aux = (256 - (1 << l)) as u8;
+        for (s, d) in [(1, 0o20), (1, 0o37), (0o27, 0o34), (0o37, 0o20), (0o37, 2)] {
+            assert_eq!((sum(s, l, d, aux), sum(s, l, d, aux + 1)), (0, 1));
+        }
+        for d in [2, 0o07, 0o17] {
+            assert_eq!((sum(1, l, d, 0), sum(1, l, d, 1)), (0, 1));
+        }
+    }
+    assert_eq!((sum(1, 0, 0o27, 0), sum(1, 0, 0o27, 1)), (0, 1));
+    // AUX with itself: the source is masked, the other is not.
+    assert_eq!((sum(0, 4, 0o27, 0x90), sum(0, 0, 0o27, 0x90), sum(0, 1, 0o27, 0xff)), (0, 1, 1));
+}
+
+#[test]
 fn ovf_is_one_from_256_on() {
     for (sum, ovf) in [(254, 0), (255, 0), (256, 1), (257, 1)] {
         let mut state = State { ovf: 1 - ovf, ..fresh() };

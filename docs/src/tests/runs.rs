@@ -158,6 +158,19 @@ fn direct_emulator_agrees_on_random_images() {
 }
 
 #[test]
+fn direct_emulator_agrees_on_sums_to_banks() {
+    let mut random = Random(14);
+    for seed in 0..200 {
+        let image = bytes_of(&sum_words(&mut random, 24, seed % 2 == 0));
+        let (answer, ..) = compare(&image, &ALL, &[0; 36], &lcg_bytes(seed, 2000));
+        assert_eq!(answer, RunAnswer::Ran { count: 1000, stop: 0 });
+        if seed % 2 == 1 {
+            stays_inside(&image, &ALL, seed);
+        }
+    }
+}
+
+#[test]
 fn return_bytes_change_no_run() {
     let mut random = Random(13);
     for words in [timing_words(), dispatch_words(), nested_words()] {

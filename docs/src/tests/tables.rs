@@ -67,6 +67,31 @@ fn sweeps_and_rounds_agree_on_loose_words() {
 }
 
 #[test]
+fn sweeps_and_rounds_agree_on_sums_to_banks() {
+    let mut random = Random(25);
+    for _ in 0..200 {
+        let loose = random.chance(50);
+        let words = sum_words(&mut random, 16, loose);
+        assert!(agree(&words, &ALL) == Verdict::Admitted || loose, "{words:04x?}");
+    }
+}
+
+#[test]
+fn an_ovf_of_a_masked_sum_is_known() {
+    // The low 4 bits of 255, and all of AUX: 241 + 15, 240 + 15.
+    for (aux, ovf) in [(241, 1), (240, 0)] {
+        let words = assemble(&[
+            XmitRegister { d: 0, i: aux },
+            XmitRegister { d: 0o11, i: 255 },
+            Add { s: 0o11, rl: 4, d: 0o23 },
+            Jmp { a: 3 },
+        ]);
+        let (_, table) = admit_words(&words, &ALL);
+        assert_eq!((cell(&table, 0, 3)[3], cell(&table, 0, 3)[12]), (7, ovf));
+    }
+}
+
+#[test]
 fn return_bytes_change_no_table() {
     let mut random = Random(24);
     for _ in 0..200 {

@@ -1,4 +1,4 @@
-//! Every line of "Values to hold against" of document 01.
+//! Every line of "Values to hold against" of document 01, that of 0x2993 by 2026-04.
 
 mod common;
 use common::{admit_words, fresh, one, ALL};
@@ -34,12 +34,12 @@ fn add_aux_to_itself_overflows() {
 }
 
 #[test]
-fn add_to_a_bank_sums_the_whole_register() {
+fn add_to_a_bank_masks_the_register_first() {
     let mut state = fresh();
     state.registers[0] = 1;
     state.registers[7] = 255;
     let (after, record) = one(0x2993, state, [0, 0]);
-    assert_eq!((record, after.ovf), ([3, 0, 0, 0], 1));
+    assert_eq!((record, after.ovf), ([3, 0, 0, 0], 0));
 }
 
 #[test]

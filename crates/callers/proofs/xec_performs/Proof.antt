@@ -26,7 +26,7 @@ loop-holds c = performs-begins (pick (c .before .before .args .returns) isReturn
 returns : tie.Need-returns Inv-loop μ-loop
 returns c =
     let start = c .before .before .before .before .before .before in
-    performs-found (pick (start .args .returns) isReturn isCall) (now (start .args .image)) (start .args .pc) (start .args .page) (start .args .i) (start .args .facts) (sourceOf (start .args .s) 0 (start .args .l)) (spanIs (c .before .before .before .before .values-of .result)) (c .before .before .before .before .values-of .ensures .0) (c .before .before .before .loop .k) (c .before .before .loop-test .taken) (c .before .before .before .loop .inv) (c .before .performs-at .result) (c .before .performs-at .ensures) (c .if1 .taken)
+    performs-found (pick (start .args .returns) isReturn isCall) (now (start .args .image)) (start .args .pc) (start .args .page) (start .args .i) (start .args .facts) (sourceOf (start .args .s) 0 0 (start .args .l)) (spanIs (c .before .before .before .before .values-of .result)) (c .before .before .before .before .values-of .ensures .0) (c .before .before .before .loop .k) (c .before .before .loop-test .taken) (c .before .before .before .loop .inv) (c .before .performs-at .result) (c .before .performs-at .ensures) (c .if1 .taken)
 
 loop-less : tie.Need-loop-less Inv-loop μ-loop
 loop-less c = omega (arith, c .before .before .loop-test .taken)
@@ -39,7 +39,7 @@ loop-again c =
 returns-2 : tie.Need-returns-2 Inv-loop μ-loop
 returns-2 c =
     let start = c .before .before .before .before in
-    performs-none (pick (start .args .returns) isReturn isCall) (now (start .args .image)) (start .args .pc) (start .args .page) (start .args .i) (start .args .facts) (sourceOf (start .args .s) 0 (start .args .l)) (spanIs (c .before .before .values-of .result)) (c .before .before .values-of .ensures .0) (c .before .loop .k) (c .loop-test .left) (c .before .loop .inv)
+    performs-none (pick (start .args .returns) isReturn isCall) (now (start .args .image)) (start .args .pc) (start .args .page) (start .args .i) (start .args .facts) (sourceOf (start .args .s) 0 0 (start .args .l)) (spanIs (c .before .before .values-of .result)) (c .before .before .values-of .ensures .0) (c .before .loop .k) (c .loop-test .left) (c .before .loop .inv)
 
 pub xec-performs-spec : {M : Type 1} → statement M
 xec-performs-spec =

@@ -11,9 +11,9 @@ returns c = (rw (eq-eqb (c .before .before .args .a .kind) 1 (c .before .if1 .ta
 
 returns-2 : tie.Need-returns-2
 returns-2 c =
-    let a = c .before .before .before .args .a in
-    (rw (ne-eqb (a .kind) 1 (c .before .before .if1 .left), ← c .before .places .ensures .0) (c .fact-of .ensures .0 (a .rl)), c .fact-of .ensures .1)
+    let a = c .before .before .before .before .args .a in
+    (rw (ne-eqb (a .kind) 1 (c .before .before .before .if1 .left), ← c .before .before .places .ensures .0, ← c .before .kept .ensures .0) (c .fact-of .ensures .0 (a .rl)), c .fact-of .ensures .1)
 
 pub argument-fact-spec : {M : Type 1} → statement M
 argument-fact-spec =
-    tie.close (tie.spec (λ c. search needs) returns (λ c κs. search needs) (λ c κs. search needs) returns-2)
+    tie.close (tie.spec (λ c. search needs) returns (λ c κs. search needs) (λ c κs. search needs) (λ c κs. search needs) returns-2)

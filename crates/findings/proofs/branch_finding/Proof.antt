@@ -15,7 +15,7 @@ use Rattle.findings.proofs.branch_finding.Tie as tie
 returns : tie.Need-returns
 returns c = λ table depth.
     let a = c .before .before .before .before .args in
-    go-stop (now (a .image)) (now (a .map)) table (a .facts) depth (a .pc) (sourceOf (a .s) 0 (a .l)) (branch (a .page) (a .i)) (c .before .read-finding .result) (c .if1 .taken) (c .before .read-finding .ensures 0 (a .l))
+    go-stop (now (a .image)) (now (a .map)) table (a .facts) depth (a .pc) (sourceOf (a .s) 0 0 (a .l)) (branch (a .page) (a .i)) (c .before .read-finding .result) (c .if1 .taken) (c .before .read-finding .ensures 0 0 (a .l))
 
 returns-2 : tie.Need-returns-2
 returns-2 c = λ table depth.
@@ -24,7 +24,7 @@ returns-2 c = λ table depth.
     let p = c .before .in-page in
     let f = c .before .before .before .before .before .before .read-finding in
     let words = wordCount (now (a .image)) in
-    go-on (now (a .image)) (now (a .map)) table (a .facts) depth (a .pc) (sourceOf (a .s) 0 (a .l)) (branch (a .page) (a .i)) (f .result) 0 (spanIs (v .result)) (c .before .before .before .before .before .if1 .left) (f .ensures 0 (a .l)) (v .ensures .0)
+    go-on (now (a .image)) (now (a .map)) table (a .facts) depth (a .pc) (sourceOf (a .s) 0 0 (a .l)) (branch (a .page) (a .i)) (f .result) 0 (spanIs (v .result)) (c .before .before .before .before .before .if1 .left) (f .ensures 0 0 (a .l)) (v .ensures .0)
     (branch-inside (now (a .image)) table depth (a .pc) (v .result .low) (v .result .count) (a .page) (a .i) (p .result)
     ((not (eqb (v .result .low) 0) || ltb (a .pc + 1) words) && (ltb (v .result .low + v .result .count) 2 || ltb (p .result) words)) (p .ensures) refl (c .if2 .taken))
 
@@ -35,7 +35,7 @@ returns-3 c = λ table depth.
     let p = c .before .in-page in
     let f = c .before .before .before .before .before .before .read-finding in
     let words = wordCount (now (a .image)) in
-    go-on (now (a .image)) (now (a .map)) table (a .facts) depth (a .pc) (sourceOf (a .s) 0 (a .l)) (branch (a .page) (a .i)) (f .result) 21 (spanIs (v .result)) (c .before .before .before .before .before .if1 .left) (f .ensures 0 (a .l)) (v .ensures .0)
+    go-on (now (a .image)) (now (a .map)) table (a .facts) depth (a .pc) (sourceOf (a .s) 0 0 (a .l)) (branch (a .page) (a .i)) (f .result) 21 (spanIs (v .result)) (c .before .before .before .before .before .if1 .left) (f .ensures 0 0 (a .l)) (v .ensures .0)
     (branch-outside (now (a .image)) table depth (a .pc) (v .result .low) (v .result .count) (a .page) (a .i) (p .result)
     ((not (eqb (v .result .low) 0) || ltb (a .pc + 1) words) && (ltb (v .result .low + v .result .count) 2 || ltb (p .result) words)) (p .ensures) refl (c .if2 .left))
 

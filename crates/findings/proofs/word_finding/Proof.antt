@@ -45,7 +45,7 @@ returns-4 c = λ table e.
     let a = c .before .before .before .before .before .before .args in
     let f = c .before .before .form4 .given in
     retold (now (a .image)) (now (a .map)) table (a .depth) (a .pc) (a .facts) (c .read-finding .result) (f .1)
-    (read-only (now (a .image)) (now (a .map)) table (a .facts) (a .depth) (a .pc) (f .0 .1 .1 .0) (f .0 .1 .1 .1 .0) (c .read-finding .result) (sourceOf (f .0 .0) 0 (f .0 .1 .0)) (c .read-finding .ensures 0 (f .0 .1 .0)))
+    (read-only (now (a .image)) (now (a .map)) table (a .facts) (a .depth) (a .pc) (f .0 .1 .1 .0) (f .0 .1 .1 .1 .0) (c .read-finding .result) (sourceOf (f .0 .0) 0 0 (f .0 .1 .0)) (c .read-finding .ensures 0 0 (f .0 .1 .0)))
 
 call-finding-requires : tie.Need-call-finding-requires
 call-finding-requires c κs =

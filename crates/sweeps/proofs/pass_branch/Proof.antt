@@ -9,7 +9,7 @@ use Rattle.sweeps.proofs.pass_branch.Tie as tie
 returns : tie.Need-returns
 returns c =
     let a = c .before .before .before .before .before .before .before .before .before .before .before .before .before .before .args in
-    branch-passed (now (a .image)) (a .depth) (a .pc) (a .facts) (sourceOf (a .s) 0 (a .l)) (a .page) (a .i) (c .before .before .before .before .before .before .before .before .before .before .before .values-of .result) (c .before .before .before .before .before .in-page .result)
+    branch-passed (now (a .image)) (a .depth) (a .pc) (a .facts) (sourceOf (a .s) 0 0 (a .l)) (a .page) (a .i) (c .before .before .before .before .before .before .before .before .before .before .before .values-of .result) (c .before .before .before .before .before .in-page .result)
     (c .before .before .before .before .before .before .before .before .before .before .before .values-of .ensures .0) (c .before .before .before .before .before .in-page .ensures) (c .before .before .before .before .before .before .before .before .pass-if .ensures) (c .before .before .pass-if2 .ensures)
 
 pub pass-branch-spec : {M : Type 1} → statement M

@@ -54,7 +54,7 @@ returns : tie.Need-returns Inv-loop μ-loop
 returns c =
     let a = c .before .before .before .before .before .args in
     let p = c .before .loop in
-    executed-all (now (a .image)) (a .depth) (a .pc) (a .facts) (a .page) (a .i) (spanIs (c .before .before .values-of .result)) (sourceOf (a .s) 0 (a .l)) (p .k)
+    executed-all (now (a .image)) (a .depth) (a .pc) (a .facts) (a .page) (a .i) (spanIs (c .before .before .values-of .result)) (sourceOf (a .s) 0 0 (a .l)) (p .k)
     (c .before .before .values-of .ensures .0) (omega (arith, c .loop-test .left, p .inv .0)) (p .inv .1)
 
 pub pass-executed-spec : {M : Type 1} → statement M

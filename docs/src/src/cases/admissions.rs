@@ -1,7 +1,7 @@
 //! Admissions with answer, sweep count and digest of the table's bytes, and
 //! lines of the bench program.
 
-use super::{Bytes, Entry, ALL_ONES, FILLER};
+use super::{sums, Bytes, Entry, ALL_ONES, FILLER};
 use crate::bench;
 use crate::digest::{Digest, Random};
 use crate::programs::*;
@@ -33,7 +33,7 @@ impl Case {
         Case::of(name, Bytes::Hex(bytes_of(words)), map)
     }
 
-    fn of(name: &str, image: Bytes, map: Bytes) -> Case {
+    pub(super) fn of(name: &str, image: Bytes, map: Bytes) -> Case {
         let table_bytes = 72 * image.expand().len();
         Case { name: name.to_string(), image, map, table_bytes }
     }
@@ -244,7 +244,8 @@ fn doors() -> Vec<Case> {
 /// All admissions.
 pub fn cases() -> Vec<Case> {
     let refused = [faults(), executed_faults(), lowest()].concat();
-    [named(), refused, random_cases(), large(), return_bytes(), doors()].concat()
+    let others = [return_bytes(), doors(), sums::admission_cases()].concat();
+    [named(), refused, random_cases(), large(), others].concat()
 }
 
 pub fn entries() -> Vec<Entry> {

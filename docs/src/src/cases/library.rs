@@ -193,8 +193,10 @@ fn begins(name: &str, with: &[&str]) -> bool {
 
 /// Some of the admissions: each refusal, findings at depths 0 and 8, admitted.
 fn admitted() -> Vec<Entry> {
-    let some =
-        ["door", "example", "timing", "fault26", "fault27", "executed", "call", "return", "lowest"];
+    let some = [
+        "door", "example", "timing", "fault26", "fault27", "executed", "call", "return", "lowest",
+        "add-mask",
+    ];
     let case = |case: admissions::Case| {
         let mut table = vec![FILLER; case.table_bytes];
         let verdict = admit(&case.image.expand(), &case.map.expand(), &mut table).verdict;

@@ -1,6 +1,6 @@
 //! Runs with answer, last state and digests of state and trace.
 
-use super::{hex, Bytes, Entry, ALL_ONES, FILLER, RESET};
+use super::{hex, sums, Bytes, Entry, ALL_ONES, FILLER, RESET};
 use crate::digest::{Digest, Random};
 use crate::machine::{State, RECORD_BYTES};
 use crate::programs::*;
@@ -35,7 +35,13 @@ pub fn answer_text(answer: RunAnswer) -> String {
 }
 
 impl Case {
-    fn new(name: &str, image: Bytes, map: Bytes, state: Bytes, recording: Bytes) -> Case {
+    pub(super) fn new(
+        name: &str,
+        image: Bytes,
+        map: Bytes,
+        state: Bytes,
+        recording: Bytes,
+    ) -> Case {
         let trace_bytes = 4 * recording.expand().len();
         Case { name: name.to_string(), image, map, state, recording, trace_bytes }
     }
@@ -287,7 +293,8 @@ fn written() -> Vec<Case> {
 
 /// All runs.
 pub fn cases() -> Vec<Case> {
-    [chains(), admitted(), loose(), stopping(), ends(), written(), doors()].concat()
+    let others = [written(), doors(), sums::run_cases()].concat();
+    [chains(), admitted(), loose(), stopping(), ends(), others].concat()
 }
 
 pub fn entries() -> Vec<Entry> {

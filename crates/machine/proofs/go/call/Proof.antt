@@ -14,7 +14,7 @@ returns c = λ map bus l.
 returns-2 : tie.Need-returns-2
 returns-2 c = λ map bus l.
     let a = c .before .before .before .before .before .args in
-    called map bus (a .q) (now (a .values)) l (now (a .returns)) (a .i) (c .before .wide .result) (c .go-to .result) (omega arith) (c .before .wide .ensures .0) (c .go-to .ensures)
+    called map bus (a .q) (now (a .values)) l (now (a .returns)) (a .i) (c .before .wide .result) (c .go-to .result) (omega arith) (c .before .wide .ensures .0) (c .before .wide .ensures .1) (c .go-to .ensures)
 
 pub call-spec : {M : Type 1} → statement M
 call-spec =
