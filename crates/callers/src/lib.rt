@@ -11,8 +11,8 @@ ghost use Rattle.facts.specs.Facts.{spanOf};
 ghost use Rattle.cells.specs.Cells.{Bounded};
 ghost use Rattle.transfer.specs.Passes.{gives, pageAddress, canBeExecuted, isCall, isReturn, some, wordsAt, isCallSite};
 ghost use Rattle.callers.specs.Callers.{spanIs, InImage, Held};
-use machine::go::LONG_PAGE;
-use machine::go::SHORT_PAGE;
+use control::LONG_PAGE;
+use control::SHORT_PAGE;
 use processor::form::Form;
 
 // The values that a source may have: count of them from low on.
@@ -109,7 +109,7 @@ fn performs_at(
     if !gives(page, i, v, k) {
         return false;
     }
-    let a = machine::go::in_page(page, pc, k);
+    let a = control::in_page(page, pc, k);
     if image.len() / 2 <= a {
         return false;
     }

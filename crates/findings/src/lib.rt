@@ -149,7 +149,7 @@ fn branch_finding(
     let words = image.len() / 2;
     let v = callers::values_of(facts, s, l);
     let on = (v.low != 0) | (pc + 1 < words);
-    let off = (v.low + v.count < 2) | (machine::go::in_page(page, pc, i) < words);
+    let off = (v.low + v.count < 2) | (control::in_page(page, pc, i) < words);
     if on & off { 0 } else { 21 }
 }
 
@@ -276,7 +276,7 @@ fn xec_finding(
     let mut k = 0;
     while k < page {
         if callers::gives(page, i, v, k) {
-            let a = machine::go::in_page(page, pc, k);
+            let a = control::in_page(page, pc, k);
             let f = executed_finding(image, map, depth, pc, facts, back, a);
             if f != 0 {
                 return f;

@@ -1,5 +1,4 @@
 pub mod Deliver
-pub mod Direct
 pub mod Fetching
 pub mod Values
 pub mod Overflow

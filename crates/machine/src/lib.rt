@@ -1,7 +1,6 @@
 // The machine: what words do. The values, the latches and the call stack are lent, the rest of the state is a struct of
 // numbers, so that a loop over steps keeps all of it in place.
 pub mod act;
-pub mod go;
 
 ghost use mathlib.Core.Path.{_≡_};
 ghost use Prim.Native.Nat.{ℕ, _<_};

@@ -5,9 +5,9 @@ ghost use Rattle.word.specs.Word.{InRange};
 ghost use Rattle.machine.specs.Shape.{shapeOf};
 ghost use Rattle.machine.specs.Parts.{operationOf, transmissionOf};
 ghost use Rattle.processor.specs.Forms.{shapeIs, FormFits};
+use control::LONG_PAGE;
+use control::SHORT_PAGE;
 use machine::act::Delivery;
-use machine::go::LONG_PAGE;
-use machine::go::SHORT_PAGE;
 use word::Word;
 
 // s is the number of the source, a register or a bank, l the length of a bank's field, page the page's width.

@@ -29,15 +29,15 @@ fn execute(
 {
     match form {
         Form::Act(a) => return machine::act::act(map, left, right, a, q, values, latches),
-        Form::Jump { a } => return machine::go::go_to(a, q.depth),
+        Form::Jump { a } => return control::go_to(a, q.depth),
         Form::Branch { s, l, page, i } => {
-            return machine::go::nzt(map, left, right, s, l, page, i, q, values);
+            return control::nzt(map, left, right, s, l, page, i, q, values);
         }
         Form::Defer { s, l, page, i } => {
-            return machine::go::xec(map, left, right, s, l, page, i, q, values);
+            return control::xec(map, left, right, s, l, page, i, q, values);
         }
-        Form::Call { i } => return machine::go::call(i, q, values, returns),
-        Form::Return => return machine::go::ret(q, returns),
+        Form::Call { i } => return control::call(i, q, values, returns),
+        Form::Return => return control::ret(q, returns),
         Form::Invalid => return machine::stop(q, 22),
     }
 }

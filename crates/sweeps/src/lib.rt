@@ -90,7 +90,7 @@ fn pass_branch(
 {
     let v = callers::values_of(facts, s, l);
     let on = pass_if(image, table, depth, pc + 1, facts, v.low == 0);
-    let a = machine::go::in_page(page, pc, i);
+    let a = control::in_page(page, pc, i);
     let away = pass_if(image, table, depth, a, facts, 1 < v.low + v.count);
     on | away
 }
@@ -176,7 +176,7 @@ fn pass_place(
     if !callers::gives(page, i, v, k) {
         return false;
     }
-    let a = machine::go::in_page(page, pc, k);
+    let a = control::in_page(page, pc, k);
     if image.len() / 2 <= a {
         return false;
     }
