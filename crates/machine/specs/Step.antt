@@ -22,7 +22,7 @@ wordAt image a = getD image (2 * a) 0 * 256 + getD image (2 * a + 1) 0
 abbrev pub shapeAt : List ℕ → ℕ → Shape
 shapeAt image a = shapeOf (decoded (wordAt image a))
 
--- Source. The bus is a step's left and right byte.
+-- Source: a byte rotated, then its low bits. The bus is a step's left and right byte.
 abbrev pub valueOf : Source → List ℕ → List ℕ → ℕ
 valueOf (register k places kept) values bus = lowBits kept (rotateRight places (getD values k 0))
 valueOf (bank b p l) values bus = fieldOf p l (getD bus b 0)

@@ -1,5 +1,5 @@
-// The machine: what words do. The values, the latches and the call stack are lent, the rest of the state is a struct of
-// numbers, so that a loop over steps keeps all of it in place.
+// The machine: what a word leaves, and the words that deliver. The values, the latches and the call stack are lent, the
+// rest of the state is a struct of numbers, so that a loop over steps keeps all of it in place.
 pub mod act;
 
 ghost use mathlib.Core.Path.{_≡_};

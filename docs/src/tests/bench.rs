@@ -55,6 +55,8 @@ fn stored_inputs() {
     for (sample, text) in [
         ("samples/indicator.bin", "admitted words 4 left 1 0 right 0 1"),
         ("samples/routine.bin", "admitted words 6 left 1 0 right 0 1"),
+        ("samples/chooser.bin", "admitted words 6 left 1 0 right 0 1"),
+        ("samples/carry.bin", "admitted words 8 left 1 0 right 0 1"),
         ("samples/odometer.bin", "refused 28 depth 0 address 3"),
         ("samples/levels.bin", "refused 25 depth 0 address 6"),
     ] {

@@ -4,7 +4,8 @@
 use riptide::{admit, count_sets, read_word, records, reset, run, table_length, trace_length, write_word};
 use riptide::{AdmitAnswer, Fields, Refusal, RunAnswer, TraceRecord};
 use riptide_reference::digest::Random;
-use riptide_reference::programs::{bytes_of, damage, random_map, random_program, random_state, random_words, with_return_bytes};
+use riptide_reference::programs::{bytes_of, damage, random_map, random_program, random_state, random_words};
+use riptide_reference::programs::{sum_words, with_return_bytes};
 use riptide_reference::run as reference;
 use riptide_reference::table::{admit as reference_admit, findings, Verdict};
 use riptide_reference::word::{decode, encode, is_bank, Word};
@@ -26,11 +27,15 @@ fn random_bytes(random: &mut Random, count: usize) -> Vec<u8> {
     (0..count).map(|_| random.below(256) as u8).collect()
 }
 
-/// An image of valid words, of a program, or of any words; a RET has any low byte.
+/// An image of valid words, of a program, of sums to banks, or of any words; a RET has any low byte.
 fn image(random: &mut Random) -> Vec<u8> {
-    let words = match random.below(3) {
+    let words = match random.below(4) {
         0 => random_program(random, 6, 8),
         1 => random_words(random, 40, 5),
+        2 => {
+            let loose = random.chance(50);
+            sum_words(random, 8, loose)
+        }
         _ => {
             let mut words = random_program(random, 4, 6);
             damage(random, &mut words);
@@ -227,6 +232,34 @@ fn fields_written_or_refused() {
 fn compare_counts(map: &[u8]) {
     let ours = count_sets(map).map_err(Refusal::number);
     assert_eq!(ours, reference_map::counts(map).map(|counts| counts.map(|count| count as u16)));
+}
+
+/// ADD of a register to a bank, every L, AUX and register, at every position of both banks: the byte is the low L bits of
+/// the whole sum, and OVF is that of AUX and the register's low L bits (2026-04).
+#[test]
+fn sums_to_banks() {
+    let mut changed = [0; 8];
+    for (l, aux, register) in (0..8).flat_map(|l| (0..=255u8).flat_map(move |a| (0..=255u8).map(move |r| (l, a, r)))) {
+        let d = 0o20 + u16::from(aux.wrapping_add(register).wrapping_add(l)) % 16;
+        let word = write_word(Fields { opcode: 1, fields: [1, l.into(), d] }).expect("a valid word");
+        let (mut state, mut trace) = ([0; 36], [9; 8]);
+        (state[5], state[6], state[16], state[17]) = (aux, register, !register, !aux);
+        let mut after = state;
+        let answer = run(&word.to_be_bytes(), &[255; 128], &mut after, &[0x5a, 0xa5], &mut trace);
+        assert_eq!(answer, RunAnswer::Ended { count: 1, stop: 0 });
+
+        let ones = if l == 0 { 255 } else { (1 << l) - 1 };
+        let (bank, places) = (usize::from(d / 8 % 2), 7 - d % 8);
+        let mask = ones << places; // what is pushed past bit 0 falls away
+        state[16 + bank] = state[16 + bank] & !mask | aux.wrapping_add(register) << places & mask;
+        state[13] = u8::from(u16::from(aux) + u16::from(register & ones) > 255);
+        changed[usize::from(l)] += usize::from(state[13] == 0 && u16::from(aux) + u16::from(register) > 255);
+        state[0] = 1;
+        assert_eq!(after, state, "L {l}, AUX {aux}, register {register}");
+        assert_eq!(trace, [3 + bank as u8, 0, state[16 + bank], 0, 0, 0, 0, 0]);
+    }
+    println!("OVF is not that of the whole sum in {changed:?} of 65,536 sums, for each L");
+    assert!(changed[0] == 0 && changed[1..].iter().all(|&count| count > 0));
 }
 
 #[test]

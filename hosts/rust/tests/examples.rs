@@ -103,8 +103,9 @@ fn the_station_in_c() {
         let input = fs::File::open(root().join(name)).expect(name);
         output(&mut Command::new(&program), input.into())
     };
-    for admitted in ["samples/indicator.bin", "samples/routine.bin", "samples/chooser.bin"] {
-        assert_eq!(station(admitted), "admitted, left 1 0 right 0 1\nran 1000 steps, stop 0\n", "{admitted}");
+    for name in ["indicator", "routine", "chooser", "carry"] {
+        let admitted = station(&format!("samples/{name}.bin"));
+        assert_eq!(admitted, "admitted, left 1 0 right 0 1\nran 1000 steps, stop 0\n", "{name}");
     }
     assert_eq!(
         station("samples/odometer.bin"),
@@ -151,7 +152,7 @@ int main(void)
 
 #[test]
 fn the_header_in_c_and_cpp() {
-    let mut expected = format!("{}\n20000 ", env!("CARGO_PKG_VERSION"));
+    let mut expected = format!("{}\n20100 ", env!("CARGO_PKG_VERSION"));
     expected += &format!("{MAP_BYTES} {MAP_BYTES} {STATE_BYTES} 16384 16384 144 144 2 {TRACE_RECORD_BYTES} ");
     expected += "11 12 13 14 15 16 18 21 22 23 24 25 26 27 28 29 ";
     expected += &format!("{}\n", table_length(&[0; 7]));
