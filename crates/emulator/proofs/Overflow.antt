@@ -1,7 +1,7 @@
 -- The bytes of a step are those of document 01 but for OVF's. Assumes nothing.
-use mathlib.Core.List.{List, [], _∷_, _++_}
+use mathlib.Core.List.{List, [], _∷_}
 use mathlib.Core.Path.{_≡_, refl, sym, ap, _∙_}
-use Prim.Native.Nat.{ℕ, zero, suc, _<_}
+use Prim.Native.Nat.{ℕ, zero, suc}
 use native.Mathlib.Omega.{arith}
 use lib.Dec.{eqb}
 use lib.ListN.{getD, set}
@@ -12,9 +12,8 @@ use Rattle.state.specs.State.{overflowSlot, loaded, stored}
 use Rattle.machine.specs.Step.{Step, stepped}
 use Rattle.machine.specs.Overflow.{steppedWhole, butOverflow, stepButOverflow}
 use Rattle.machine.proofs.Overflow.{only-overflow}
-use Rattle.emulator.specs.declared.RunAnswer.the-variants.{Ended}
-use Rattle.emulator.specs.Run.{Ran, noStep, after, recordOf, writtenOver, doorQuestions, RunResult, refused, ended, ranOver, runResult}
-use Rattle.emulator.specs.Overflow.{ranStep, overflowByte, resultButOverflow, OnlyOverflowByte}
+use Rattle.emulator.specs.Run.{Ran, noStep, after, doorQuestions, RunResult, refused, ended, ranOver, runResult}
+use Rattle.emulator.specs.Overflow.{overflowByte, resultButOverflow, OnlyOverflowByte}
 
 -- a place that was zeroed holds 0, also where there is none
 zeroed : (xs : List ℕ) (i : ℕ) → getD (set xs i 0) i 0 ≡ 0

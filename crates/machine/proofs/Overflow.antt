@@ -2,14 +2,14 @@
 use mathlib.Core.Bool.{Bool, true, false}
 use mathlib.Core.List.{List, [], _∷_}
 use mathlib.Core.Path.{_≡_, refl, sym, ap, _∙_}
-use Prim.Native.Nat.{ℕ, zero, suc, _+_}
+use Prim.Native.Nat.{ℕ, zero, suc}
 use native.Mathlib.Nat.{add-mod-mod}
 use native.Mathlib.Omega.{arith}
 use lib.Dec.{leb}
 use lib.ListN.{getD, set}
 use lib.Seq.{getD-set-other}
 use Rattle.choice.specs.Choice.{pick}
-use Rattle.choice.proofs.Laws.{pick-both, pick-beside, asked-beside}
+use Rattle.choice.proofs.Laws.{pick-both, asked-beside}
 use Rattle.field.specs.Field.{lowBits, rotateRight, mergeInto, sumOf, carryOf}
 use Rattle.field.proofs.Laws.{merge-sum}
 use Rattle.word.specs.declared.Word.{Word}
@@ -18,8 +18,8 @@ use Rattle.word.specs.Word.{decoded}
 use Rattle.state.specs.declared.State.{State}
 use Rattle.state.specs.State.{overflowSlot, addressSlot}
 use Rattle.machine.specs.Shape.{Source, bank, register, Target, slot, latch, Control, branch, defer, Shape, act, go, bankOf, positionOf, sourceOf, slotOf, targetOf, placesOf, actShape, shapeOf}
-use Rattle.machine.specs.Step.{Outcome, wordAt, fetchAddress, shapeQuestions, wentOn, cameToStop, stepFrom, Step, shapeStepped, stepped, resultOf, withOverflow, actState}
-use Rattle.machine.specs.Overflow.{wholeSource, wholeShape, steppedWhole, butOverflow, stepButOverflow, SameMerged, OnlyOverflow}
+use Rattle.machine.specs.Step.{Outcome, wordAt, fetchAddress, shapeQuestions, wentOn, cameToStop, stepFrom, shapeStepped, stepped, resultOf, withOverflow, actState}
+use Rattle.machine.specs.Overflow.{wholeSource, wholeShape, stepButOverflow, SameMerged, OnlyOverflow}
 
 pub same-merged : SameMerged
 same-merged = merge-sum
@@ -57,11 +57,7 @@ sum-whole aux x = add-mod-mod aux x 256
 
 -- a source of which all eight bits are kept is whole
 kept-whole : (s places l : ℕ) → sourceOf s places 0 l ≡ wholeSource (sourceOf s places 0 l)
-kept-whole s places l = go (leb 16 s)
-  where
-    go : (b : Bool) → pick b (bank (bankOf s) (positionOf s) l) (register (slotOf s) places 0) ≡ wholeSource (pick b (bank (bankOf s) (positionOf s) l) (register (slotOf s) places 0))
-    go true = refl
-    go false = refl
+kept-whole s places l = pick-both (λ (source : Source). source ≡ wholeSource source) (leb 16 s) refl refl
 
 module _ (image map bus : List ℕ) (s : State) where
   abbrev Agree : Shape → Shape → Type 0
