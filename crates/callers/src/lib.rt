@@ -27,7 +27,7 @@ pub fn values_of(facts: [u16; 11], s: usize, l: usize) -> Values
     ensures { λ r. ⌜ (spanIs r ≡ spanOf (sourceOf s 0 0 l) facts) × (r .low + r .count ≤ 256) ⌝ }
 {
     if s < word::FIRST_BANK {
-        let f = effects::fact_of(facts, s, 0, 0);
+        let f = effects::fact_of(facts, s, 0);
         if f == facts::UNKNOWN {
             return Values { low: 0, count: 256 };
         }

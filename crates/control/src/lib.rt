@@ -86,7 +86,7 @@ pub fn xec(
     if !machine::act::may_read(map, values, s) {
         return machine::stop(q, 23);
     }
-    let x = wide(machine::act::operand(values, left, right, s, 0, 0, l));
+    let x = wide(machine::act::operand(values, left, right, s, 0, l));
     defer_to(q, in_page(page, q.pc, i + x))
 }
 
@@ -108,7 +108,7 @@ pub fn nzt(
     if !machine::act::may_read(map, values, s) {
         return machine::stop(q, 23);
     }
-    let x = machine::act::operand(values, left, right, s, 0, 0, l);
+    let x = machine::act::operand(values, left, right, s, 0, l);
     if x == 0 {
         return go_to(q.pc + 1, q.depth);
     }

@@ -5,33 +5,59 @@ ghost use lib.ListN.{getD};
 ghost use Rattle.choice.specs.Choice.{pick};
 ghost use Rattle.field.specs.Field.{rotateRight, lowBits};
 ghost use Rattle.machine.specs.Shape.{sourceOf, targetOf};
-ghost use Rattle.machine.specs.Parts.{deliverySource};
+ghost use Rattle.machine.specs.Parts.{maskedInto, takenSource, deliverySource};
 ghost use Rattle.facts.specs.Facts.{unknown, isKnown, sourceFact, resultFact, carryFact, withCarryFact, putFact};
 ghost use Rattle.cells.specs.Cells.{Bounded};
 use facts::UNKNOWN;
 use machine::act::Delivery;
 
-// The fact of a register rotated by places and kept to a length.
-fn masked(f: u16, places: usize, kept: usize) -> u16
-    requires { ⌜ (f ≤ unknown) × (places < 8) × (kept < 8) ⌝ }
-    ensures { λ r. ⌜ (r ≡ pick (isKnown f) (lowBits kept (rotateRight places f)) unknown) × (r ≤ unknown) ⌝ }
+// The fact of a register rotated by places.
+fn rotated(f: u16, places: usize) -> u16
+    requires { ⌜ (f ≤ unknown) × (places < 8) ⌝ }
+    ensures { λ r. ⌜ (r ≡ pick (isKnown f) (lowBits 0 (rotateRight places f)) unknown) × (r ≤ unknown) ⌝ }
 {
     if f == UNKNOWN {
         return UNKNOWN;
     }
-    field::low(field::rotate(f as u8, places), kept) as u16
+    field::rotate(f as u8, places) as u16
 }
 
-// The fact of the source s, a register rotated by places and kept to a length. A bank is never known.
-pub fn fact_of(facts: [u16; 11], s: usize, places: usize, kept: usize) -> u16
-    requires { ⌜ Bounded facts × (places < 8) × (kept < 8) ⌝ }
-    ensures { λ r. ⌜ ((l : ℕ) → r ≡ sourceFact (sourceOf s places kept l) facts) × (r ≤ unknown) ⌝ }
+// The fact of the source s, a register rotated by places. A bank is never known.
+pub fn fact_of(facts: [u16; 11], s: usize, places: usize) -> u16
+    requires { ⌜ Bounded facts × (places < 8) ⌝ }
+    ensures { λ r. ⌜ ((l : ℕ) → r ≡ sourceFact (sourceOf s places 0 l) facts) × (r ≤ unknown) ⌝ }
 {
     if s < word::FIRST_BANK {
         let k = machine::act::slot_of(s);
-        return masked(facts[k], places, kept);
+        return rotated(facts[k], places);
     }
     UNKNOWN
+}
+
+// The fact of an act's source, before ADD's mask.
+fn taken_fact(facts: [u16; 11], a: Delivery) -> u16
+    requires { ⌜ Bounded facts × (a .rl < 8) × (a .i < 256) ⌝ }
+    ensures { λ r. ⌜ (r ≡ sourceFact (takenSource a) facts) × (r ≤ unknown) ⌝ }
+{
+    let kind = a.kind;
+    if kind == 1 {
+        return a.i as u16;
+    }
+    fact_of(facts, a.s, machine::act::places(a.rl, a.d))
+}
+
+// The fact of a source x as an operation with the target d takes it.
+fn masked(op: usize, x: u16, l: usize, d: usize) -> u16
+    requires { ⌜ (x ≤ unknown) × (l < 8) ⌝ }
+    ensures { λ r. ⌜ (r ≡ pick (isKnown x) (maskedInto op l d x) unknown) × (r ≤ unknown) ⌝ }
+{
+    if x == UNKNOWN {
+        return UNKNOWN;
+    }
+    if d < word::FIRST_BANK {
+        return x;
+    }
+    machine::act::masked(op, x as u8, l) as u16
 }
 
 // The fact of an act's source.
@@ -39,16 +65,7 @@ pub fn argument_fact(facts: [u16; 11], a: Delivery) -> u16
     requires { ⌜ Bounded facts × (a .rl < 8) × (a .i < 256) ⌝ }
     ensures { λ r. ⌜ (r ≡ sourceFact (deliverySource a) facts) × (r ≤ unknown) ⌝ }
 {
-    let kind = a.kind;
-    if kind == 1 {
-        return a.i as u16;
-    }
-    fact_of(
-        facts,
-        a.s,
-        machine::act::places(a.rl, a.d),
-        machine::act::kept(a.op, a.rl, a.d),
-    )
+    masked(a.op, taken_fact(facts, a), a.rl, a.d)
 }
 
 // The fact of a result: MOVE reads the source alone, ADD, AND and XOR read AUX too.

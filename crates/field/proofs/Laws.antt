@@ -6,9 +6,11 @@ use native.Mathlib.Nat.{add-comm, add-assoc, mul-assoc, mul-comm, lt-of-le-of-lt
 use native.Mathlib.Nat.{min-eq-left, mul-add-mod-self-right, add-mod-mod}
 use native.Mathlib.Decide.{decLe}
 use native.Mathlib.Omega.{arith}
+use lib.Dec.{eqb}
 use lib.Arith.{digits-lt}
 use lib.Bits.{and-lt, xor-lt}
 use lib.Pow.{pow-add, pow-pos, high, low, mod-pow-add, mod-mod-pow, shr-shr, shr-lt, split}
+use Rattle.choice.proofs.Laws.{pick-both}
 use Rattle.field.specs.Field.{rotateRight, widthOf, lowBits, fieldOf, block, mergeInto}
 use Rattle.field.specs.Field.{sumOf, carryOf, andOf, xorOf}
 
@@ -134,10 +136,33 @@ rotate-rotate p q {x} hp hq hx = either (decLe 8 (p + q))
 
 -- ---- field and merge
 
--- a byte that is not rotated and keeps all its bits
-pub whole-byte : {x : ℕ} → x < 256 → lowBits 0 (rotateRight 0 x) ≡ x
+-- all eight bits are a byte, and all of a byte
+pub low-byte : (x : ℕ) → lowBits 0 x < 256
 unfolding lowBits
-whole-byte {x} h = ap (λ (n : ℕ). n % 256) (rotate-none x) ∙ mod-eq-of-lt h
+low-byte x = mod-lt x (omega arith)
+
+pub low-all : {x : ℕ} → x < 256 → lowBits 0 x ≡ x
+unfolding lowBits
+low-all h = mod-eq-of-lt h
+
+pub whole-byte : {x : ℕ} → x < 256 → lowBits 0 (rotateRight 0 x) ≡ x
+whole-byte {x} h = ap (lowBits 0) (rotate-none x) ∙ low-all h
+
+-- the low digits of a number that keeps at least as many
+fewer : (m n x : ℕ) → n ≤ m → x % 2 ^ m % 2 ^ n ≡ x % 2 ^ n
+fewer m n x h = ap (λ (k : ℕ). x % 2 ^ k % 2 ^ n) past ∙ mod-mod-pow x (m - n) n
+  where
+    past : m ≡ m - n + n
+    past = omega arith
+
+-- low bits kept twice; low bits of all eight
+pub low-low : (l x : ℕ) → lowBits l (lowBits l x) ≡ lowBits l x
+unfolding lowBits
+low-low l x = fewer (widthOf l) (widthOf l) x (omega arith)
+
+pub low-of-all : (l x : ℕ) → l < 8 → lowBits l (lowBits 0 x) ≡ lowBits l x
+unfolding lowBits
+low-of-all l x h = fewer 8 (widthOf l) x (pick-both (λ (n : ℕ). n ≤ 8) (eqb l 0) (omega arith) (omega arith))
 
 -- a field that fits the byte is read back
 pub merge-then-field : (p l v latch : ℕ) → p < 8 → widthOf l ≤ p + 1
@@ -178,13 +203,6 @@ sum-low w v aux x h = either (decLe w 8)
   where
     same : (aux + x % 2 ^ w) % 2 ^ w ≡ (aux + x) % 2 ^ w
     same = add-mod-mod aux x (2 ^ w)
-
-    -- digits of a number that keeps at least as many
-    fewer : (m n y : ℕ) → n ≤ m → y % 2 ^ m % 2 ^ n ≡ y % 2 ^ n
-    fewer m n y l = ap (λ (k : ℕ). y % 2 ^ k % 2 ^ n) past ∙ mod-mod-pow y (m - n) n
-      where
-        past : m ≡ m - n + n
-        past = omega arith
 
     either : Dec (w ≤ 8) → sumOf aux (x % 2 ^ w) % 2 ^ v ≡ sumOf aux x % 2 ^ v
     either (yes l) =

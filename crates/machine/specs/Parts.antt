@@ -2,9 +2,10 @@
 use mathlib.Core.List.{List, [], _∷_}
 use mathlib.Core.Path.{_≡_}
 use Prim.Native.Nat.{ℕ, _+_, _<_, _≤_}
-use lib.Dec.{eqb}
+use lib.Dec.{leb, eqb}
 use lib.ListN.{length, getD}
 use Rattle.choice.specs.Choice.{pick, ask, asked}
+use Rattle.field.specs.Field.{lowBits}
 use Rattle.map.specs.Map.{mapLength}
 use Rattle.state.specs.declared.State.{State}
 use Rattle.state.specs.State.{stackPlaces}
@@ -96,6 +97,14 @@ deferEffect q pending =
 abbrev pub IsPage : ℕ → Type 0
 IsPage page = (page ≡ 256 → ⊥) → page ≡ 32
 
+-- What an operation with a bank as its target takes of its source x: ADD the low bits, the others all of it.
+abbrev pub maskedBy : ℕ → ℕ → ℕ → ℕ
+maskedBy op l x = pick (eqb op 1) (lowBits l x) x
+
+-- the same with the target d
+abbrev pub maskedInto : ℕ → ℕ → ℕ → ℕ → ℕ
+maskedInto op l d x = pick (eqb op 1) (pick (leb 16 d) (lowBits l x) x) x
+
 -- a step that delivers the source x to a target: questions 4 and 5, then the change
 abbrev pub delivered : List ℕ → ℕ → ℕ → Target → State → Outcome
 delivered map op x target s =
@@ -113,8 +122,14 @@ operationOf op s rl d = deliveryOf 0 op s rl d 0
 abbrev pub transmissionOf : ℕ → ℕ → ℕ → Delivery
 transmissionOf d l i = deliveryOf 1 0 0 l d i
 
+-- its source, and its source before ADD's mask
 abbrev pub deliverySource : Delivery → Source
-deliverySource a = pick (eqb (a .kind) 1) (constant (a .i)) (sourceOf (a .s) (placesOf (a .rl) (a .d)) (keptOf (a .op) (a .rl) (a .d)) (a .rl))
+deliverySource a =
+    pick (eqb (a .kind) 1) (constant (maskedInto (a .op) (a .rl) (a .d) (a .i)))
+    (sourceOf (a .s) (placesOf (a .rl) (a .d)) (keptOf (a .op) (a .rl) (a .d)) (a .rl))
+
+abbrev pub takenSource : Delivery → Source
+takenSource a = pick (eqb (a .kind) 1) (constant (a .i)) (sourceOf (a .s) (placesOf (a .rl) (a .d)) 0 (a .rl))
 
 abbrev pub shapeOfDelivery : Delivery → Shape
 shapeOfDelivery a = act (deliverySource a) (a .op) (targetOf (a .d) (a .rl))

@@ -4,9 +4,9 @@ ghost use mathlib.Core.List.{List, [], _∷_};
 ghost use Prim.Native.Nat.{ℕ, _<_};
 ghost use lib.ListN.{length, getD};
 ghost use Rattle.map.specs.Map.{mapLength};
-ghost use Rattle.machine.specs.Shape.{slotOf, sourceOf, targetOf, slot, latch, bankOf, positionOf, placesOf, keptOf};
+ghost use Rattle.machine.specs.Shape.{slotOf, sourceOf, targetOf, slot, latch, bankOf, positionOf, placesOf};
 ghost use Rattle.machine.specs.Step.{valueOf, resultOf, withOverflow, mayRead, wordStep};
-ghost use Rattle.machine.specs.Parts.{whole, outcome, actEffect, delivered, deliverySource, shapeOfDelivery, Ready};
+ghost use Rattle.machine.specs.Parts.{whole, outcome, actEffect, maskedBy, maskedInto, delivered, takenSource, deliverySource, shapeOfDelivery, Ready};
 use crate::Effect;
 use crate::Sequencer;
 
@@ -55,22 +55,14 @@ pub fn may_read(map: &[u8], values: &[u8; 11], s: usize) -> bool
     map::readable(map, bank, wide(values[state::ADDRESS + bank]))
 }
 
-// The source: a register rotated by places and kept to a length, or a bank's field of length l.
-pub fn operand(
-    values: &[u8; 11],
-    left: u8,
-    right: u8,
-    s: usize,
-    places: usize,
-    kept: usize,
-    l: usize,
-) -> u8
-    requires { ⌜ (places < 8) × (kept < 8) × (l < 8) ⌝ }
-    ensures { λ r. ⌜ r ≡ valueOf (sourceOf s places kept l) (now (values .entry)) (left ∷ right ∷ []) ⌝ }
+// The source: a register rotated by places, or a bank's field of length l.
+pub fn operand(values: &[u8; 11], left: u8, right: u8, s: usize, places: usize, l: usize) -> u8
+    requires { ⌜ (places < 8) × (l < 8) ⌝ }
+    ensures { λ r. ⌜ r ≡ valueOf (sourceOf s places 0 l) (now (values .entry)) (left ∷ right ∷ []) ⌝ }
 {
     if s < word::FIRST_BANK {
         let k = slot_of(s);
-        return field::low(field::rotate(values[k], places), kept);
+        return field::rotate(values[k], places);
     }
     field::field(bus_byte(left, right, s / 8 % 2), s % 8, l)
 }
@@ -138,6 +130,14 @@ fn to_slot(map: &[u8], op: usize, x: u8, k: usize, q: Sequencer, values: &mut [u
     went(q, k + 1 - state::ADDRESS, wide(values[k]), 0)
 }
 
+// What an operation with a bank as its target takes of its source: ADD the low bits. A bank's field has no others.
+pub fn masked(op: usize, x: u8, l: usize) -> u8
+    requires { ⌜ l < 8 ⌝ }
+    ensures { λ r. ⌜ r ≡ maskedBy op l x ⌝ }
+{
+    if op == 1 { field::low(x, l) } else { x }
+}
+
 // To a bank: merged into its latch, which is then the byte written at its address.
 fn to_latch(
     map: &[u8],
@@ -150,15 +150,16 @@ fn to_latch(
     latches: &mut [u8; 2],
 ) -> Effect
     requires { ⌜ Ready (now map) q × (l < 8) ⌝ }
-    ensures { λ r. ⌜ ((s : List ℕ) → outcome r (now (values .exit)) (now (latches .exit)) s ≡ delivered (now (map .entry)) op x (latch (bankOf d) (positionOf d) l) (whole q (now (values .entry)) (now (latches .entry)) s)) ⌝ }
+    ensures { λ r. ⌜ ((s : List ℕ) → outcome r (now (values .exit)) (now (latches .exit)) s ≡ delivered (now (map .entry)) op (maskedBy op l x) (latch (bankOf d) (positionOf d) l) (whole q (now (values .entry)) (now (latches .entry)) s)) ⌝ }
 {
     let aux = values[0];
     let bank = d / 8 % 2;
     if !map::writable(map, bank, wide(values[state::ADDRESS + bank])) {
         return crate::stop(q, 24);
     }
-    let y = result(op, aux, x);
-    set_overflow(op, aux, x, values);
+    let summand = masked(op, x, l);
+    let y = result(op, aux, summand);
+    set_overflow(op, aux, summand, values);
     latches[bank] = field::merge(latches[bank], y, d % 8, l);
     went(
         q,
@@ -180,7 +181,7 @@ fn deliver(
     latches: &mut [u8; 2],
 ) -> Effect
     requires { ⌜ Ready (now map) q × (l < 8) ⌝ }
-    ensures { λ r. ⌜ ((s : List ℕ) → outcome r (now (values .exit)) (now (latches .exit)) s ≡ delivered (now (map .entry)) op x (targetOf d l) (whole q (now (values .entry)) (now (latches .entry)) s)) ⌝ }
+    ensures { λ r. ⌜ ((s : List ℕ) → outcome r (now (values .exit)) (now (latches .exit)) s ≡ delivered (now (map .entry)) op (maskedInto op l d x) (targetOf d l) (whole q (now (values .entry)) (now (latches .entry)) s)) ⌝ }
 {
     if d < word::FIRST_BANK {
         let k = slot_of(d);
@@ -195,17 +196,6 @@ pub fn places(rl: usize, d: usize) -> usize
     ensures { λ r. ⌜ (r ≡ placesOf rl d) × (r < 8) ⌝ }
 {
     if d < word::FIRST_BANK { rl } else { 0 }
-}
-
-// ADD to a bank keeps the low bits of a register before the sum; length 0 keeps all eight.
-pub fn kept(op: usize, rl: usize, d: usize) -> usize
-    requires { ⌜ rl < 8 ⌝ }
-    ensures { λ r. ⌜ (r ≡ keptOf op rl d) × (r < 8) ⌝ }
-{
-    if op != 1 {
-        return 0;
-    }
-    if d < word::FIRST_BANK { 0 } else { rl }
 }
 
 // A word that delivers a source to a target: where kind is 0 the source s, where it is 1 the constant i.
@@ -230,24 +220,16 @@ fn may_take(map: &[u8], values: &[u8; 11], a: Delivery) -> bool
     may_read(map, values, a.s)
 }
 
-// The source.
+// The source, before ADD's mask.
 fn argument(values: &[u8; 11], left: u8, right: u8, a: Delivery) -> u8
     requires { ⌜ (a .rl < 8) × (a .i < 256) ⌝ }
-    ensures { λ r. ⌜ r ≡ valueOf (deliverySource a) (now (values .entry)) (left ∷ right ∷ []) ⌝ }
+    ensures { λ r. ⌜ r ≡ valueOf (takenSource a) (now (values .entry)) (left ∷ right ∷ []) ⌝ }
 {
     let kind = a.kind;
     if kind == 1 {
         return crate::narrow(a.i);
     }
-    operand(
-        values,
-        left,
-        right,
-        a.s,
-        places(a.rl, a.d),
-        kept(a.op, a.rl, a.d),
-        a.rl,
-    )
+    operand(values, left, right, a.s, places(a.rl, a.d), a.rl)
 }
 
 // MOVE, ADD, AND, XOR, XMIT.

@@ -1,11 +1,11 @@
 -- `machine::act::act` meets its contract. Assumes nothing.
-use mathlib.Core.Path.{_∙_, sym}
+use mathlib.Core.Path.{_∙_, sym, ap}
 use mathlib.Core.List.{[], _∷_}
 use denote.Ref.{now}
 use borrow.Author.Tests.{not-true, not-false}
 use Rattle.machine.specs.Shape.{targetOf}
-use Rattle.machine.specs.Parts.{deliverySource}
-use Rattle.machine.proofs.Deliver.{read-then, unreadable}
+use Rattle.machine.specs.Parts.{maskedInto, deliverySource}
+use Rattle.machine.proofs.Deliver.{taken-value, read-then, unreadable}
 use borrow.Author.Needs.{needs}
 use Rattle.machine.proofs.act.act.Statement.{statement}
 use Rattle.machine.proofs.act.act.Tie as tie
@@ -18,7 +18,7 @@ returns c = λ t.
 returns-2 : tie.Need-returns-2
 returns-2 c = λ t.
     let a = c .before .before .before .before .before .before .before .before .before .args in
-    read-then (now (a .map)) (a .left ∷ a .right ∷ []) (a .a .op) (deliverySource (a .a)) (targetOf (a .a .d) (a .a .rl)) (a .q) (now (a .values)) (now (a .latches)) t (c .before .before .before .argument .result) _ (sym (c .before .before .before .before .before .before .may-take .ensures) ∙ not-false (c .before .before .before .before .before .before .may-take .result) (c .before .before .before .before .before .if1 .left)) (c .before .before .before .argument .ensures) (c .deliver .ensures t)
+    read-then (now (a .map)) (a .left ∷ a .right ∷ []) (a .a .op) (deliverySource (a .a)) (targetOf (a .a .d) (a .a .rl)) (a .q) (now (a .values)) (now (a .latches)) t (maskedInto (a .a .op) (a .a .rl) (a .a .d) (c .before .before .before .argument .result)) _ (sym (c .before .before .before .before .before .before .may-take .ensures) ∙ not-false (c .before .before .before .before .before .before .may-take .result) (c .before .before .before .before .before .if1 .left)) (ap (maskedInto (a .a .op) (a .a .rl) (a .a .d)) (c .before .before .before .argument .ensures) ∙ taken-value (a .a) (now (a .values)) (a .left ∷ a .right ∷ []) (c .before .before .before .before .before .before .before .before .before .pre .1)) (c .deliver .ensures t)
 
 pub act-spec : {M : Type 1} → statement M
 act-spec =

@@ -1,11 +1,15 @@
 use denote.Ref.{now}
 use borrow.Author.Tests.{lt-leb, le-leb}
+use Rattle.machine.proofs.Deliver.{unmasked}
 use borrow.Author.Needs.{needs}
 use Rattle.machine.proofs.act.deliver.Statement.{statement}
 use Rattle.machine.proofs.act.deliver.Tie as tie
 
 returns : tie.Need-returns
-returns c = λ s. simp (lt-leb _ _ (c .before .before .before .if1 .taken), ← c .before .before .slot-of .ensures .0) (c .to-slot .ensures (now (c .before .before .before .before .before .args .latches)) s)
+returns c = λ s.
+    let a = c .before .before .before .before .before .args in
+    let low = c .before .before .before .if1 .taken in
+    rw (unmasked (a .op) (a .l) (a .d) (a .x) low, lt-leb 16 (a .d) low, ← c .before .before .slot-of .ensures .0) (c .to-slot .ensures (now (a .latches)) s)
 
 returns-2 : tie.Need-returns-2
 returns-2 c = λ s. simp (le-leb _ _ (c .before .before .before .if1 .left)) (c .to-latch .ensures s)
