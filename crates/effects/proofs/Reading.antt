@@ -18,7 +18,7 @@ use Rattle.facts.specs.Facts.{factCount, unknown, isKnown, sourceFact, resultFa
 use Rattle.cells.proofs.Laws.{getD-inside}
 
 -- the fact of a source that is taken whole and then masked is that of the source with its kept length
-module _ (a : Delivery) (fs : List ℕ) (length : a .rl < 8) (byte : a .i < 256) where
+module _ (a : Delivery) (fs : List ℕ) (short : a .rl < 8) (byte : a .i < 256) where
   abbrev masks : ℕ → ℕ
   masks x = pick (isKnown x) (maskedInto (a .op) (a .rl) (a .d) x) unknown
 
@@ -33,7 +33,7 @@ module _ (a : Delivery) (fs : List ℕ) (length : a .rl < 8) (byte : a .i < 256)
       pick-beside Masked (eqb (a .kind) 1) (λ _. known byte)
       (λ _. pick-beside Masked (leb 16 (a .s)) (λ _. refl)
       (λ _. pick-beside (λ (x y : ℕ). masks x ≡ y) (isKnown (getD fs (slotOf (a .s)) unknown))
-      (λ _. known (low-byte _) ∙ kept-value (a .op) (a .rl) (a .d) _ length) (λ _. refl)))
+      (λ _. known (low-byte _) ∙ kept-value (a .op) (a .rl) (a .d) _ short) (λ _. refl)))
 
 module _ (fs : List ℕ) (long : length fs ≡ factCount) where
   -- a register as the source

@@ -54,10 +54,7 @@ fn masked(op: usize, x: u16, l: usize, d: usize) -> u16
     if x == UNKNOWN {
         return UNKNOWN;
     }
-    if d < word::FIRST_BANK {
-        return x;
-    }
-    machine::act::masked(op, x as u8, l) as u16
+    machine::act::masked(op, x as u8, l, d) as u16
 }
 
 // The fact of an act's source.

@@ -44,12 +44,11 @@ field-value op l d p y =
 pub taken-value : (a : Delivery) (v bus : List ℕ) → a .rl < 8
     → maskedInto (a .op) (a .rl) (a .d) (valueOf (takenSource a) v bus) ≡ valueOf (deliverySource a) v bus
 taken-value a v bus h =
-    pick-beside (λ (s t : Source). into (valueOf s v bus) ≡ valueOf t v bus) (eqb (a .kind) 1) (λ _. refl)
-    (λ _. pick-beside (λ (s t : Source). into (valueOf s v bus) ≡ valueOf t v bus) (leb 16 (a .s))
-    (λ _. field-value (a .op) (a .rl) (a .d) _ _) (λ _. kept-value (a .op) (a .rl) (a .d) _ h))
+    pick-beside Masked (eqb (a .kind) 1) (λ _. refl)
+    (λ _. pick-beside Masked (leb 16 (a .s)) (λ _. field-value (a .op) (a .rl) (a .d) _ _) (λ _. kept-value (a .op) (a .rl) (a .d) _ h))
   where
-    into : ℕ → ℕ
-    into = maskedInto (a .op) (a .rl) (a .d)
+    Masked : Source → Source → Type 0
+    Masked s t = maskedInto (a .op) (a .rl) (a .d) (valueOf s v bus) ≡ valueOf t v bus
 
 module _ (map : List ℕ) (op x : ℕ) (q : Sequencer) (v l s w : List ℕ) (y : ℕ) (e : Effect) where
   pub to-register : (k : ℕ) → k < 9 → y ≡ resultOf op (getD v 0 0) x → w ≡ withOverflow op (getD v 0 0) x v → e ≡ actEffect q 0 0 0

@@ -97,11 +97,7 @@ deferEffect q pending =
 abbrev pub IsPage : ℕ → Type 0
 IsPage page = (page ≡ 256 → ⊥) → page ≡ 32
 
--- What an operation with a bank as its target takes of its source x: ADD the low bits, the others all of it.
-abbrev pub maskedBy : ℕ → ℕ → ℕ → ℕ
-maskedBy op l x = pick (eqb op 1) (lowBits l x) x
-
--- the same with the target d
+-- What an operation with the target d takes of its source x: ADD to a bank the low bits, every other all of it.
 abbrev pub maskedInto : ℕ → ℕ → ℕ → ℕ → ℕ
 maskedInto op l d x = pick (eqb op 1) (pick (leb 16 d) (lowBits l x) x) x
 

@@ -6,7 +6,7 @@ ghost use lib.ListN.{length, getD};
 ghost use Rattle.map.specs.Map.{mapLength};
 ghost use Rattle.machine.specs.Shape.{slotOf, sourceOf, targetOf, slot, latch, bankOf, positionOf, placesOf};
 ghost use Rattle.machine.specs.Step.{valueOf, resultOf, withOverflow, mayRead, wordStep};
-ghost use Rattle.machine.specs.Parts.{whole, outcome, actEffect, maskedBy, maskedInto, delivered, takenSource, deliverySource, shapeOfDelivery, Ready};
+ghost use Rattle.machine.specs.Parts.{whole, outcome, actEffect, maskedInto, delivered, takenSource, deliverySource, shapeOfDelivery, Ready};
 use crate::Effect;
 use crate::Sequencer;
 
@@ -130,12 +130,19 @@ fn to_slot(map: &[u8], op: usize, x: u8, k: usize, q: Sequencer, values: &mut [u
     went(q, k + 1 - state::ADDRESS, wide(values[k]), 0)
 }
 
-// What an operation with a bank as its target takes of its source: ADD the low bits. A bank's field has no others.
-pub fn masked(op: usize, x: u8, l: usize) -> u8
+// What an operation takes of its source: ADD to a bank the low bits. A bank's field has no others.
+pub fn masked(op: usize, x: u8, l: usize, d: usize) -> u8
     requires { ⌜ l < 8 ⌝ }
-    ensures { λ r. ⌜ r ≡ maskedBy op l x ⌝ }
+    ensures { λ r. ⌜ r ≡ maskedInto op l d x ⌝ }
 {
-    if op == 1 { field::low(x, l) } else { x }
+    if op != 1 {
+        return x;
+    }
+    if d < word::FIRST_BANK {
+        x
+    } else {
+        field::low(x, l)
+    }
 }
 
 // To a bank: merged into its latch, which is then the byte written at its address.
@@ -150,14 +157,14 @@ fn to_latch(
     latches: &mut [u8; 2],
 ) -> Effect
     requires { ⌜ Ready (now map) q × (l < 8) ⌝ }
-    ensures { λ r. ⌜ ((s : List ℕ) → outcome r (now (values .exit)) (now (latches .exit)) s ≡ delivered (now (map .entry)) op (maskedBy op l x) (latch (bankOf d) (positionOf d) l) (whole q (now (values .entry)) (now (latches .entry)) s)) ⌝ }
+    ensures { λ r. ⌜ ((s : List ℕ) → outcome r (now (values .exit)) (now (latches .exit)) s ≡ delivered (now (map .entry)) op (maskedInto op l d x) (latch (bankOf d) (positionOf d) l) (whole q (now (values .entry)) (now (latches .entry)) s)) ⌝ }
 {
     let aux = values[0];
     let bank = d / 8 % 2;
     if !map::writable(map, bank, wide(values[state::ADDRESS + bank])) {
         return crate::stop(q, 24);
     }
-    let summand = masked(op, x, l);
+    let summand = masked(op, x, l, d);
     let y = result(op, aux, summand);
     set_overflow(op, aux, summand, values);
     latches[bank] = field::merge(latches[bank], y, d % 8, l);

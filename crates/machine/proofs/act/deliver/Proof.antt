@@ -12,7 +12,9 @@ returns c = λ s.
     rw (unmasked (a .op) (a .l) (a .d) (a .x) low, lt-leb 16 (a .d) low, ← c .before .before .slot-of .ensures .0) (c .to-slot .ensures (now (a .latches)) s)
 
 returns-2 : tie.Need-returns-2
-returns-2 c = λ s. simp (le-leb _ _ (c .before .before .before .if1 .left)) (c .to-latch .ensures s)
+returns-2 c = λ s.
+    let high = le-leb 16 (c .before .before .before .before .before .args .d) (c .before .before .before .if1 .left) in
+    rw high (rw high at (c .to-latch .ensures s))
 
 pub deliver-spec : {M : Type 1} → statement M
 deliver-spec =
