@@ -10,7 +10,7 @@ use Rattle.choice.specs.Choice.{pick, firstNo}
 use Rattle.choice.proofs.Laws.{and-both}
 use Rattle.map.specs.Map.{mapLength}
 use Rattle.state.specs.declared.State.{State}
-use Rattle.state.specs.State.{stateLength, stored, wellFormed, zeroState}
+use Rattle.state.specs.State.{EachBelow, stateLength, stored, wellFormed, zeroState}
 use Rattle.state.proofs.Laws.{stored-length}
 use Rattle.state.proofs.RoundTrip.{store-then-load, reset-stored}
 use Rattle.state.proofs.WellFormed.{formed}
@@ -25,7 +25,7 @@ use Rattle.transfer.specs.Passes.{tableSpace, leastTable}
 use Rattle.transfer.specs.Findings.{NoFinding}
 use Rattle.transfer.proofs.TableLaws.{least-table}
 use Rattle.guarantee.specs.Safe.{Safe}
-use Rattle.guarantee.specs.Demand.{Bytes, Job, Steps, ends, goes, Fault, odd, short, Flawless, finished, executes, turnedAway, Demand}
+use Rattle.guarantee.specs.Demand.{Job, Steps, ends, goes, Fault, odd, short, Flawless, finished, executes, turnedAway, Demand}
 use Rattle.guarantee.proofs.StepSafe.{step-safe}
 use Rattle.guarantee.proofs.ResetSafe.{reset-safe}
 
@@ -34,7 +34,7 @@ pair-bytes left right l r zero = l
 pair-bytes left right l r (suc zero) = r
 pair-bytes left right l r (suc (suc k)) = omega arith
 
-module _ (image map table : List ℕ) (bytes : Bytes image) (fits : imageFits image ≡ true) (long : length map ≡ mapLength) (closed : Closed (tableSpace image) resetCell table) (clean : NoFinding image map table) where
+module _ (image map table : List ℕ) (bytes : EachBelow 256 image) (fits : imageFits image ≡ true) (long : length map ≡ mapLength) (closed : Closed (tableSpace image) resetCell table) (clean : NoFinding image map table) where
   -- a step with a pair of bytes
   pair-safe : (left right : ℕ) → left < 256 → right < 256 → (s : State) → Safe image table s
       → (firstNo (stepQuestions image map (left ∷ right ∷ []) s) ≡ 0) × Safe image table (stepped image map (left ∷ right ∷ []) s .state)
@@ -67,7 +67,7 @@ module _ (image map table : List ℕ) (bytes : Bytes image) (fits : imageFits im
         counted = rw go (let n = more .counted in omega arith);
       }
 
-  went : (recording : List ℕ) → Bytes recording → recordingFits recording ≡ true → (s : State) → Safe image table s → Went recording s
+  went : (recording : List ℕ) → EachBelow 256 recording → recordingFits recording ≡ true → (s : State) → Safe image table s → Went recording s
   unfolding ranOver
   went [] b even s safe = record { last = s; steps = ends (safe .inside); safe = safe; arrives = refl; counted = refl }
   went (left ∷ []) b even s safe = absurd (false≢true even)

@@ -2,12 +2,12 @@
 use mathlib.Core.Path.{_≡_}
 use mathlib.Core.Bool.{true, false}
 use mathlib.Core.List.{List, [], _∷_}
-use Prim.Native.Nat.{ℕ, _<_}
-use lib.ListN.{length, getD}
+use Prim.Native.Nat.{ℕ}
+use lib.ListN.{length}
 use Rattle.choice.specs.Choice.{firstNo}
 use Rattle.map.specs.Map.{mapLength}
 use Rattle.state.specs.declared.State.{State}
-use Rattle.state.specs.State.{loaded, stored, resetBytes}
+use Rattle.state.specs.State.{EachBelow, loaded, stored, resetBytes}
 use Rattle.machine.specs.Step.{stepQuestions, stepped}
 use Rattle.emulator.specs.declared.RunAnswer.the-variants.{Refused, Ended}
 use Rattle.emulator.specs.Run.{pairCount, imageFits, recordingFits, traceFits, runResult}
@@ -16,14 +16,11 @@ use Rattle.admission.specs.declared.AdmitAnswer.the-variants.{Admitted}
 use Rattle.admission.specs.Admission.{admitResult}
 use Rattle.guarantee.specs.Safe.{Inside}
 
-abbrev pub Bytes : List ℕ → Type 0
-Bytes bytes = (k : ℕ) → getD bytes k 0 < 256
-
 -- A run of the list "brings a recording and a trace of its own", of any bytes and any length.
 pub record Job : Type 0 where
   pub recording : List ℕ
   pub trace : List ℕ
-  pub bytes : Bytes recording
+  pub bytes : EachBelow 256 recording
 
 -- The steps of a run, from a state to its last one. "every other run executes one word per pair": for each pair in turn
 -- the state lies within the facts that the table holds at its depth and PC, none of the seven step questions gets a no
@@ -70,12 +67,12 @@ pub data Flawless (image map table : List ℕ) : List ℕ → List Job → Type 
 -- then every list of runs, whatever bytes their recordings hold, is flawless from the state that reset makes.
 abbrev pub Demand : List ℕ → List ℕ → List ℕ → Type 0
 Demand image map table =
-    Bytes image → imageFits image ≡ true → length map ≡ mapLength → NoFinding image map table → (jobs : List Job)
+    EachBelow 256 image → imageFits image ≡ true → length map ≡ mapLength → NoFinding image map table → (jobs : List Job)
     → Flawless image map table resetBytes jobs
 
 -- The same in the words of the three calls: what `admit` answers admitted, from whatever bytes the table held, runs
 -- flawlessly by `run` from what `reset` makes, within the facts of the table as `admit` leaves it.
 abbrev pub AdmittedRuns : List ℕ → List ℕ → List ℕ → Type 0
 AdmittedRuns image map table =
-    Bytes image → admitResult image map table .answer ≡ Admitted → (jobs : List Job)
+    EachBelow 256 image → admitResult image map table .answer ≡ Admitted → (jobs : List Job)
     → Flawless image map (admitResult image map table .table) resetBytes jobs

@@ -1,11 +1,8 @@
 -- Laws of the access map. Assumes nothing.
-use mathlib.Core.Path.{_≡_, refl, sym, ap, ap₂, _∙_}
-use mathlib.Core.Logic.{_⊎_, ⊎-elim}
+use mathlib.Core.Path.{_≡_, refl, ap, _∙_}
 use mathlib.Core.Bool.{Bool, true, false, _||_, or-true}
 use mathlib.Core.List.{List, [], _∷_}
 use Prim.Native.Nat.{ℕ, zero, suc, _+_, _≤_}
-use native.Mathlib.Nat.{add-zero}
-use native.Mathlib.Numerals.{add-one}
 use native.Mathlib.Omega.{arith}
 use borrow.Author.Tests.{eq-eqb, ne-eqb}
 use lib.Dec.{eqb}
@@ -15,16 +12,6 @@ use Rattle.map.specs.declared.Counts.{Counts}
 use Rattle.map.specs.declared.Counts.the-variants.{Sets, Refused}
 use Rattle.map.specs.Map.{mapLength, inSet, readable, writable, listed}
 use Rattle.map.specs.Map.{countBelow, countOf, counted, countsOf, counting}
-
--- one more address: the count goes up by one where it is in the set
-pub count-turn : (map : List ℕ) (k n : ℕ) {m t : ℕ} {b : Bool} → m ≡ countBelow map k n → b ≡ inSet map k n
-    → ((b ≡ true) × (t ≡ m + 1)) ⊎ ((b ≡ false) × (t ≡ m)) → t ≡ countBelow map k (n + 1)
-unfolding countBelow
-count-turn map k n {m} {t} {b} e f came =
-    ⊎-elim (λ w. w .1 ∙ step (w .0)) (λ w. w .1 ∙ sym (add-zero m) ∙ step (w .0)) came
-  where
-    step : {a : Bool} → b ≡ a → m + pick a 1 0 ≡ countBelow map k (n + 1)
-    step h = sym (ap (countBelow map k) (add-one n) ∙ ap₂ (λ (x : ℕ) (y : Bool). x + pick y 1 0) (sym e) (sym f ∙ h))
 
 -- a set has at most n of the first n addresses
 pub count-le : (map : List ℕ) (k n : ℕ) → countBelow map k n ≤ n

@@ -1,8 +1,9 @@
 // The access map: 128 bytes, four sets of bus addresses. Bank 0 is left, 1 is right.
 ghost use mathlib.Core.Path.{_≡_};
-ghost use Prim.Native.Nat.{_<_};
+ghost use Prim.Native.Nat.{_+_, _≤_, _<_};
 ghost use lib.ListN.{length};
 ghost use Rattle.map.specs.Map.{mapLength, inSet, readable, writable, listed, countOf, counted, countsOf, counting};
+ghost use Rattle.map.specs.Ones.{numberFrom, onesFrom};
 
 // Bytes of a map.
 pub const LENGTH: usize = 128;
@@ -50,20 +51,35 @@ pub fn listed(map: &[u8], bank: usize, address: usize) -> bool
     readable(map, bank, address) | writable(map, bank, address)
 }
 
+// The eight bytes from place `at` on as one word of 64 bits, the first byte lowest.
+fn word_at(map: &[u8], at: usize) -> u64
+    requires { ⌜ at + 8 ≤ length (now map) ⌝ }
+    ensures { λ r. ⌜ r ≡ numberFrom (now (map .entry)) at 8 ⌝ }
+{
+    let mut word = 0;
+    let mut i = 0;
+    while i < 8 {
+        word = word + ((map[at + i] as u64) << (8 * i));
+        i += 1;
+    }
+    word
+}
+
+// The ones of the eight bytes from place `at` on.
+fn ones_at(map: &[u8], at: usize) -> usize
+    requires { ⌜ at + 8 ≤ length (now map) ⌝ }
+    ensures { λ r. ⌜ (r ≡ onesFrom (now (map .entry)) at 8) × (r ≤ 64) ⌝ }
+{
+    u64::count_ones(word_at(map, at)) as usize
+}
+
 // How many addresses the set has.
 fn set_size(map: &[u8], set: usize) -> usize
     requires { ⌜ (length (now map) ≡ mapLength) × (set < 4) ⌝ }
     ensures { λ r. ⌜ r ≡ countOf (now (map .entry)) set ⌝ }
 {
-    let mut count = 0;
-    let mut address = 0;
-    while address < 256 {
-        if in_set(map, set, address) {
-            count += 1;
-        }
-        address += 1;
-    }
-    count
+    let at = set * 32;
+    ones_at(map, at) + ones_at(map, at + 8) + ones_at(map, at + 16) + ones_at(map, at + 24)
 }
 
 // How many addresses each set has, for a map of 128 bytes.

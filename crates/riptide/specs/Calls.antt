@@ -3,13 +3,14 @@ use mathlib.Core.Path.{_≡_}
 use mathlib.Core.List.{List, [], _∷_}
 use Prim.Native.Nat.{ℕ, _*_, _^_, _≤_, _<_}
 use lib.ListN.{length}
-use Rattle.state.specs.State.{stateLength, resetNumberOf, resetState}
+use Rattle.state.specs.State.{EachBelow, stateLength, resetNumberOf, resetState}
 use Rattle.machine.specs.Step.{wordCount}
 use Rattle.emulator.specs.Run.{pairCount, runResult}
 use Rattle.admission.specs.Admission.{admitResult}
 use Rattle.admission.specs.Lowest.{findingIn, Lowest}
-use Rattle.guarantee.specs.Demand.{Bytes, Job, Fault, Flawless}
-use Rattle.riptide.specs.Numbers.{admitNumber, runNumber, bitsFrom, numberIn}
+use Rattle.guarantee.specs.Demand.{Job, Fault, Flawless}
+use Rattle.numbers.specs.Words.{bitsFrom, numberIn}
+use Rattle.riptide.specs.Numbers.{admitNumber, runNumber}
 
 -- What riptide_admit and riptide_run give: their contracts equate their results with these.
 abbrev pub admitGives : List ℕ → List ℕ → List ℕ → ℕ
@@ -23,7 +24,7 @@ runGives image map state job = runNumber (runResult image map state (job .record
 -- a finding.
 abbrev pub NumberNames : List ℕ → List ℕ → List ℕ → Type 0
 NumberNames image map table =
-    Bytes image → 21 ≤ numberIn (admitGives image map table)
+    EachBelow 256 image → 21 ≤ numberIn (admitGives image map table)
     → Lowest (wordCount image) (findingIn image (admitResult image map table .table)) (numberIn (admitGives image map table))
     (bitsFrom 8 8 (admitGives image map table)) (bitsFrom 16 16 (admitGives image map table))
 
@@ -48,6 +49,6 @@ pub data Calls (image map : List ℕ) : List ℕ → List Job → Type 0 where
 -- bytes that it leaves every list of runs is flawless, in the sense of demand 3, and gives those numbers.
 abbrev pub AdmittedCalls : List ℕ → List ℕ → List ℕ → List ℕ → Type 0
 AdmittedCalls image map table state =
-    Bytes image → numberIn (admitGives image map table) ≡ 0 → length state ≡ stateLength
+    EachBelow 256 image → numberIn (admitGives image map table) ≡ 0 → length state ≡ stateLength
     → (resetNumberOf state ≡ 0) × ((jobs : List Job) → Countable jobs
     → Flawless image map (admitResult image map table .table) (resetState state) jobs × Calls image map (resetState state) jobs)

@@ -51,3 +51,13 @@ impl<'a> Map<'a> {
 pub fn counts(bytes: &[u8]) -> Result<[usize; 4], u8> {
     Map::new(bytes).map(|map| map.counts())
 }
+
+/// The same counts, or 12, with eight bytes counted in one operation (2026-05): the ones of a
+/// word of 64 bits are those of its eight bytes together.
+pub fn counts_by_words(bytes: &[u8]) -> Result<[usize; 4], u8> {
+    let bytes = Map::new(bytes)?.bytes;
+    let word = |eight: &[u8]| u64::from_le_bytes(eight.try_into().expect("eight bytes"));
+    let ones = |eight| word(eight).count_ones() as usize;
+    let size = |set: usize| bytes[32 * set..][..32].chunks_exact(8).map(ones).sum();
+    Ok([size(0), size(1), size(2), size(3)])
+}

@@ -269,8 +269,15 @@ fn sets_counted() {
         compare_counts(&random_bytes(&mut random, length));
     }
     assert_eq!(count_sets(&[255; 128]), Ok([256; 4]));
-    for _ in 0..1000 {
+    for (place, byte) in (0..128).flat_map(|place| (0..=255).map(move |byte| (place, byte))) {
+        let mut map = [0; 128];
+        map[place] = byte;
+        compare_counts(&map);
+        compare_counts(&map.map(|byte| !byte));
+    }
+    for _ in 0..cases() {
         compare_counts(&random_map(&mut random));
+        compare_counts(&random_bytes(&mut random, 128));
     }
 }
 

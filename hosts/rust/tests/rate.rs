@@ -1,10 +1,13 @@
-//! Steps per second of the library beside the direct Rust emulator, over the same 32,768 pairs, repeated; and seconds of
-//! admission for the images of 8,192 words that `docs/RATES.md` names, where it is said how these are run.
+//! Steps per second of the library beside the direct Rust emulator, over the same 32,768 pairs, repeated; seconds of
+//! admission for the images of 8,192 words that `docs/RATES.md` names, where it is said how these are run; and maps whose
+//! sets are counted.
 
-use riptide::{admit, run, table_length, AdmitAnswer, RunAnswer, TRACE_RECORD_BYTES};
+use riptide::{admit, count_sets, run, table_length, AdmitAnswer, RunAnswer, MAP_BYTES, TRACE_RECORD_BYTES};
 use riptide_reference::digest::{lcg_bytes, Digest};
 use riptide_reference::direct;
+use riptide_reference::map::counts_by_words;
 use riptide_reference::programs::{bytes_of, timing_map, timing_words};
+use std::collections::HashSet;
 use std::time::Instant;
 
 const PAIRS: usize = 32_768;
@@ -182,4 +185,37 @@ fn dearest_image() {
     let [.., (name, words)] = images();
     let (answer, _, seconds) = admitted(&bytes_of(&words));
     println!("{name}: {answer}, {seconds:.0} s");
+}
+
+const MAPS: usize = 100_000;
+
+/// The fastest time of a map in ten passes over all of them, and the sum of the counts of each set.
+fn counted(maps: &[u8], mut counts: impl FnMut(&[u8]) -> [usize; 4]) -> (f64, [usize; 4]) {
+    let (mut fastest, mut sums) = (f64::INFINITY, [0; 4]);
+    for _ in 0..10 {
+        sums = [0; 4];
+        let started = Instant::now();
+        for map in maps.chunks_exact(MAP_BYTES) {
+            let found = counts(map);
+            for set in 0..4 {
+                sums[set] += found[set];
+            }
+        }
+        fastest = fastest.min(started.elapsed().as_secs_f64());
+    }
+    (fastest * 1e9 / MAPS as f64, sums)
+}
+
+#[test]
+#[ignore]
+fn sets_counted() {
+    let maps = lcg_bytes(1, MAP_BYTES * MAPS);
+    let different: HashSet<&[u8]> = maps.chunks_exact(MAP_BYTES).collect();
+    assert_eq!(different.len(), MAPS);
+    for _ in 0..3 {
+        let (ours, our_sums) = counted(&maps, |map| count_sets(map).expect("a map").map(usize::from));
+        let (theirs, their_sums) = counted(&maps, |map| counts_by_words(map).expect("a map"));
+        assert_eq!(our_sums, their_sums);
+        println!("library {ours:.1}, Rust with count_ones {theirs:.1} ns a map; sums {our_sums:?}");
+    }
 }

@@ -3,7 +3,7 @@ use mathlib.Core.Path.{_∙_, ap, sym, subst}
 use native.Mathlib.Omega.{arith}
 use Rattle.word.specs.Word.{InRange}
 use Rattle.word.proofs.Laws.{decoded-in-range}
-use Rattle.riptide.specs.Numbers.{readNumber}
+use Rattle.numbers.specs.Words.{readNumber}
 use borrow.Author.Needs.{needs}
 use Rattle.riptide.proofs.riptide_read_word.Statement.{statement}
 use Rattle.riptide.proofs.riptide_read_word.Tie as tie

@@ -1,7 +1,7 @@
 -- `riptide::riptide_write_word` meets its contract. Assumes nothing.
 use mathlib.Core.Path.{_∙_, ap, sym}
 use Rattle.word.specs.Word.{encoded}
-use Rattle.riptide.specs.Numbers.{writeNumber}
+use Rattle.numbers.specs.Words.{writeNumber}
 use borrow.Author.Needs.{needs}
 use Rattle.riptide.proofs.riptide_write_word.Statement.{statement}
 use Rattle.riptide.proofs.riptide_write_word.Tie as tie

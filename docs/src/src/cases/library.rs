@@ -158,6 +158,32 @@ fn encoded() -> Vec<Entry> {
     given.into_iter().map(case).collect()
 }
 
+/// A map from its sixteen words of eight bytes, low byte first, by set and place in the set.
+fn map_of_words(word: impl Fn(usize, usize) -> u64) -> Bytes {
+    Bytes::Hex((0..16).flat_map(|n| word(n / 4, n % 4).to_le_bytes()).collect())
+}
+
+/// Maps whose counts change when a word or a byte of it is left out, counted
+/// twice or put to another set (2026-05).
+fn maps_of_words() -> Vec<(String, Bytes)> {
+    // A word whose bytes have 1 to 8 ones, and words that have ones in the lowest places.
+    let rising = u64::from_le_bytes([0x01, 0x03, 0x07, 0x0f, 0x1f, 0x3f, 0x7f, 0xff]);
+    let lowest = |ones: usize| (1 << ones) - 1;
+    let alone = |n| map_of_words(|set, k| if 4 * set + k == n { rising } else { 0 });
+    let words = (0..16).map(|n| (format!("word-{n}"), alone(n)));
+    let others = [
+        // 16 different numbers of ones; no other choice of four in a set has the same sum.
+        ("words-differ", map_of_words(|set, k| lowest((2 * set + 1) << k))),
+        ("first-bytes", map_of_words(|set, _| lowest(8 - set))),
+        ("last-bytes", map_of_words(|set, _| u64::MAX << (56 + set))),
+        ("even-bits", Bytes::Fill { word: 0x5555, count: 64 }),
+        ("odd-bits", Bytes::Fill { word: 0xaaaa, count: 64 }),
+        ("word-less", Bytes::Lcg { seed: 77, count: 120 }),
+        ("word-more", Bytes::Lcg { seed: 77, count: 136 }),
+    ];
+    words.chain(others.map(|(name, map)| (name.to_string(), map))).collect()
+}
+
 /// Maps of 128 bytes and of other lengths.
 fn counted() -> Vec<Entry> {
     let maps = [
@@ -169,10 +195,11 @@ fn counted() -> Vec<Entry> {
         ("long", Bytes::Lcg { seed: 77, count: 129 }),
         ("none", Bytes::Hex(vec![])),
     ];
-    let case = |(name, map): (&str, Bytes)| {
-        entry("count", name, vec![("map", map.text())], count_number(&map.expand()))
+    let case = |(name, map): (String, Bytes)| {
+        entry("count", &name, vec![("map", map.text())], count_number(&map.expand()))
     };
-    maps.into_iter().map(case).collect()
+    let maps = maps.map(|(name, map)| (name.to_string(), map));
+    maps.into_iter().chain(maps_of_words()).map(case).collect()
 }
 
 /// States of 36 bytes and of other lengths.
