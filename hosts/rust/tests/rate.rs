@@ -189,10 +189,10 @@ fn dearest_image() {
 
 const MAPS: usize = 100_000;
 
-/// The fastest time of a map in ten passes over all of them, and the sum of the counts of each set.
+/// The fastest time of a map in a hundred passes over all of them, and the sum of the counts of each set.
 fn counted(maps: &[u8], mut counts: impl FnMut(&[u8]) -> [usize; 4]) -> (f64, [usize; 4]) {
     let (mut fastest, mut sums) = (f64::INFINITY, [0; 4]);
-    for _ in 0..10 {
+    for _ in 0..100 {
         sums = [0; 4];
         let started = Instant::now();
         for map in maps.chunks_exact(MAP_BYTES) {
