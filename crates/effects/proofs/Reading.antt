@@ -13,7 +13,7 @@ use Rattle.field.proofs.Laws.{low-byte}
 use Rattle.machine.specs.declared.act.Delivery.{Delivery}
 use Rattle.machine.specs.Shape.{Source, slotOf, sourceOf, targetOf}
 use Rattle.machine.specs.Parts.{maskedInto, takenSource, deliverySource}
-use Rattle.machine.proofs.Deliver.{kept-value}
+use Rattle.machine.proofs.Masks.{kept-value}
 use Rattle.facts.specs.Facts.{factCount, unknown, isKnown, sourceFact, resultFact, withCarryFact, putFact}
 use Rattle.cells.proofs.Laws.{getD-inside}
 

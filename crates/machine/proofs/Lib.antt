@@ -1,4 +1,4 @@
-pub mod Deliver
+pub mod Masks
 pub mod Fetching
 pub mod Values
 pub mod Overflow

@@ -1,9 +1,9 @@
-// The machine: what a word leaves, and the words that deliver. The values, the latches and the call stack are lent, the
+// The machine: what a word leaves, and what it reads. The values, the latches and the call stack are lent, the
 // rest of the state is a struct of numbers, so that a loop over steps keeps all of it in place.
 pub mod act;
 
 ghost use mathlib.Core.Path.{_≡_};
-ghost use Prim.Native.Nat.{ℕ, _<_};
+ghost use Prim.Native.Nat.{ℕ};
 ghost use mathlib.Core.List.{List};
 ghost use Rattle.machine.specs.Step.{cameToStop};
 ghost use Rattle.machine.specs.Parts.{whole, outcome};
@@ -42,11 +42,4 @@ pub fn stop(q: Sequencer, number: usize) -> Effect
         written: 0,
         stop: number,
     }
-}
-
-pub(crate) fn narrow(x: usize) -> u8
-    requires { ⌜ x < 256 ⌝ }
-    ensures { λ r. ⌜ r ≡ x ⌝ }
-{
-    x as u8
 }

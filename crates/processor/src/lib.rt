@@ -28,7 +28,7 @@ fn execute(
     ensures { λ r. ⌜ outcome r (now (values .exit)) (now (latches .exit)) (now (returns .exit)) ≡ wordStep (now (map .entry)) (shapeIs form) (left ∷ right ∷ []) (whole q (now (values .entry)) (now (latches .entry)) (now (returns .entry))) ⌝ }
 {
     match form {
-        Form::Act(a) => return machine::act::act(map, left, right, a, q, values, latches),
+        Form::Act(a) => return delivery::act(map, left, right, a, q, values, latches),
         Form::Jump { a } => return control::go_to(a, q.depth),
         Form::Branch { s, l, page, i } => {
             return control::nzt(map, left, right, s, l, page, i, q, values);

@@ -3,12 +3,12 @@ use mathlib.Core.Path.{_∙_, ap}
 use denote.Ref.{now}
 use borrow.Author.Tests.{not-true, not-false}
 use Rattle.map.specs.Map.{writable}
 use Rattle.machine.specs.Shape.{latch}
 use Rattle.machine.specs.Parts.{whole, delivered}
-use Rattle.machine.proofs.Deliver.{to-bank, unwritable}
+use Rattle.delivery.proofs.Outcomes.{to-bank, unwritable}
 use borrow.Author.Needs.{needs}
-use Rattle.machine.proofs.act.to_latch.Statement.{statement}
-use Rattle.machine.proofs.act.to_latch.Tie as tie
+use Rattle.delivery.proofs.to_latch.Statement.{statement}
+use Rattle.delivery.proofs.to_latch.Tie as tie
 
 returns : tie.Need-returns
 returns c = λ s.

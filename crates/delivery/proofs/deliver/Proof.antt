@@ -1,9 +1,9 @@
 use denote.Ref.{now}
 use borrow.Author.Tests.{lt-leb, le-leb}
-use Rattle.machine.proofs.Deliver.{unmasked}
+use Rattle.machine.proofs.Masks.{unmasked}
 use borrow.Author.Needs.{needs}
-use Rattle.machine.proofs.act.deliver.Statement.{statement}
-use Rattle.machine.proofs.act.deliver.Tie as tie
+use Rattle.delivery.proofs.deliver.Statement.{statement}
+use Rattle.delivery.proofs.deliver.Tie as tie
 
 returns : tie.Need-returns
 returns c = λ s.

@@ -1,14 +1,15 @@
--- `machine::act::act` meets its contract. Assumes nothing.
+-- `delivery::act` meets its contract. Assumes nothing.
 use mathlib.Core.Path.{_∙_, sym, ap}
 use mathlib.Core.List.{[], _∷_}
 use denote.Ref.{now}
 use borrow.Author.Tests.{not-true, not-false}
 use Rattle.machine.specs.Shape.{targetOf}
 use Rattle.machine.specs.Parts.{maskedInto, deliverySource}
-use Rattle.machine.proofs.Deliver.{taken-value, read-then, unreadable}
+use Rattle.machine.proofs.Masks.{taken-value}
+use Rattle.delivery.proofs.Outcomes.{read-then, unreadable}
 use borrow.Author.Needs.{needs}
-use Rattle.machine.proofs.act.act.Statement.{statement}
-use Rattle.machine.proofs.act.act.Tie as tie
+use Rattle.delivery.proofs.act.Statement.{statement}
+use Rattle.delivery.proofs.act.Tie as tie
 
 returns : tie.Need-returns
 returns c = λ t.

@@ -1,8 +1,8 @@
--- `machine::act::argument` meets its contract. Assumes nothing.
+-- `delivery::argument` meets its contract. Assumes nothing.
 use borrow.Author.Tests.{eq-eqb, ne-eqb}
 use borrow.Author.Needs.{needs}
-use Rattle.machine.proofs.act.argument.Statement.{statement}
-use Rattle.machine.proofs.act.argument.Tie as tie
+use Rattle.delivery.proofs.argument.Statement.{statement}
+use Rattle.delivery.proofs.argument.Tie as tie
 
 returns : tie.Need-returns
 returns c = rw (eq-eqb (c .before .before .args .a .kind) 1 (c .before .if1 .taken)) (c .narrow .ensures)

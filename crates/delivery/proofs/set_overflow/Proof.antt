@@ -1,8 +1,8 @@
 use borrow.Author.Tests.{eq-eqb, ne-eqb}
 use Rattle.machine.specs.Step.{withOverflow}
 use borrow.Author.Needs.{needs}
-use Rattle.machine.proofs.act.set_overflow.Statement.{statement}
-use Rattle.machine.proofs.act.set_overflow.Tie as tie
+use Rattle.delivery.proofs.set_overflow.Statement.{statement}
+use Rattle.delivery.proofs.set_overflow.Tie as tie
 
 returns : tie.Need-returns
 unfolding withOverflow

@@ -3,10 +3,10 @@ use native.Mathlib.Omega.{arith}
 use borrow.Author.Tests.{not-true, not-false}
 use Rattle.map.specs.Map.{listed}
 use denote.Ref.{now}
-use Rattle.machine.proofs.Deliver.{to-register, to-address, unlisted}
+use Rattle.delivery.proofs.Outcomes.{to-register, to-address, unlisted}
 use borrow.Author.Needs.{needs}
-use Rattle.machine.proofs.act.to_slot.Statement.{statement}
-use Rattle.machine.proofs.act.to_slot.Tie as tie
+use Rattle.delivery.proofs.to_slot.Statement.{statement}
+use Rattle.delivery.proofs.to_slot.Tie as tie
 
 returns : tie.Need-returns
 returns c = λ l s.

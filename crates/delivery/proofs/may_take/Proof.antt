@@ -1,9 +1,9 @@
--- `machine::act::may_take` meets its contract. Assumes nothing.
+-- `delivery::may_take` meets its contract. Assumes nothing.
 use mathlib.Core.Path.{refl}
 use borrow.Author.Tests.{eq-eqb, ne-eqb}
 use borrow.Author.Needs.{needs}
-use Rattle.machine.proofs.act.may_take.Statement.{statement}
-use Rattle.machine.proofs.act.may_take.Tie as tie
+use Rattle.delivery.proofs.may_take.Statement.{statement}
+use Rattle.delivery.proofs.may_take.Tie as tie
 
 returns : tie.Need-returns
 returns c = rw (eq-eqb (c .before .before .args .a .kind) 1 (c .if1 .taken)) refl
