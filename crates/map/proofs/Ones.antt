@@ -111,11 +111,22 @@ addresses map small k (suc n) =
     ∙ ones-are-addresses map small k n
     ∙ ap (λ (x : ℕ). x + ones (getD map (k * 32 + n) 0)) (addresses map small k n)
 
--- a set of 32 bytes is four words
-pub set-words : (map : List ℕ) → EachBelow 256 map → (k : ℕ)
-    → onesFrom map (k * 32) 8 + onesFrom map (k * 32 + 8) 8 + onesFrom map (k * 32 + 16) 8 + onesFrom map (k * 32 + 24) 8
-    ≡ countOf map k
-set-words map small k =
-    sym (addresses map small k 32
-    ∙ ones-apart map (k * 32) 24 8
-    ∙ ap (λ (x : ℕ). x + onesFrom map (k * 32 + 24) 8) (ones-apart map (k * 32) 16 8 ∙ ap (λ (x : ℕ). x + onesFrom map (k * 32 + 16) 8) (ones-apart map (k * 32) 8 8)))
+-- a set of 32 bytes is four words, each at its place
+pub set-words : (map : List ℕ) → EachBelow 256 map → (k : ℕ) {a b c d p q r s : ℕ}
+    → a ≡ onesFrom map p 8 → b ≡ onesFrom map q 8 → c ≡ onesFrom map r 8 → d ≡ onesFrom map s 8
+    → p ≡ k * 32 → q ≡ k * 32 + 8 → r ≡ k * 32 + 16 → s ≡ k * 32 + 24 → a + b + c + d ≡ countOf map k
+set-words map small k ea eb ec ed ep eq er es =
+    omega (
+      arith,
+      at ea ep,
+      at eb eq,
+      at ec er,
+      at ed es,
+      addresses map small k 32,
+      ones-apart map (k * 32) 24 8,
+      ones-apart map (k * 32) 16 8,
+      ones-apart map (k * 32) 8 8,
+    )
+  where
+    at : {x i j : ℕ} → x ≡ onesFrom map i 8 → i ≡ j → x ≡ onesFrom map j 8
+    at e f = e ∙ ap (λ (i : ℕ). onesFrom map i 8) f
