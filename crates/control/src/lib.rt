@@ -56,12 +56,6 @@ pub fn in_page(page: usize, pc: usize, x: usize) -> usize
     pc / SHORT_PAGE * SHORT_PAGE + x % SHORT_PAGE
 }
 
-fn wide(x: u8) -> usize
-    ensures { λ r. ⌜ (r ≡ x) × (r < 256) ⌝ }
-{
-    x as usize
-}
-
 fn wide_number(x: u16) -> usize
     ensures { λ r. ⌜ r ≡ x ⌝ }
 {
@@ -86,7 +80,7 @@ pub fn xec(
     if !machine::act::may_read(map, values, s) {
         return machine::stop(q, 23);
     }
-    let x = wide(machine::act::operand(values, left, right, s, 0, l));
+    let x = machine::wide(machine::act::operand(values, left, right, s, 0, l));
     defer_to(q, in_page(page, q.pc, i + x))
 }
 
@@ -125,7 +119,7 @@ pub fn call(i: usize, q: Sequencer, values: &[u8; 11], returns: &mut [u16; 8]) -
         return machine::stop(q, 26);
     }
     returns[depth] = (q.pc + 1) as u16;
-    go_to(wide(values[0]) * 256 + i, depth + 1)
+    go_to(machine::wide(values[0]) * 256 + i, depth + 1)
 }
 
 // RET: pops into PC and zeroes the popped place.

@@ -11,12 +11,6 @@ use machine::Effect;
 use machine::Sequencer;
 use machine::act::Delivery;
 
-fn wide(x: u8) -> usize
-    ensures { λ r. ⌜ (r ≡ x) × (r < 256) ⌝ }
-{
-    x as usize
-}
-
 fn narrow(x: usize) -> u8
     requires { ⌜ x < 256 ⌝ }
     ensures { λ r. ⌜ r ≡ x ⌝ }
@@ -63,12 +57,12 @@ fn to_slot(map: &[u8], op: usize, x: u8, k: usize, q: Sequencer, values: &mut [u
         return went(q, 0, 0, 0);
     }
     let y = machine::act::result(op, aux, x);
-    if !map::listed(map, k - state::ADDRESS, wide(y)) {
+    if !map::listed(map, k - state::ADDRESS, machine::wide(y)) {
         return machine::stop(q, 25);
     }
     set_overflow(op, aux, x, values);
     values[k] = y;
-    went(q, k + 1 - state::ADDRESS, wide(values[k]), 0)
+    went(q, k + 1 - state::ADDRESS, machine::wide(values[k]), 0)
 }
 
 // To a bank: merged into its latch, which is then the byte written at its address.
@@ -87,7 +81,7 @@ fn to_latch(
 {
     let aux = values[0];
     let bank = d / 8 % 2;
-    if !map::writable(map, bank, wide(values[state::ADDRESS + bank])) {
+    if !map::writable(map, bank, machine::wide(values[state::ADDRESS + bank])) {
         return machine::stop(q, 24);
     }
     let summand = machine::act::masked(op, x, l, d);
@@ -97,8 +91,8 @@ fn to_latch(
     went(
         q,
         3 + bank,
-        wide(values[state::ADDRESS + bank]),
-        wide(latches[bank]),
+        machine::wide(values[state::ADDRESS + bank]),
+        machine::wide(latches[bank]),
     )
 }
 

@@ -27,12 +27,6 @@ pub fn slot_of(r: usize) -> usize
     state::ADDRESS + 1
 }
 
-fn wide(x: u8) -> usize
-    ensures { λ r. ⌜ (r ≡ x) × (r < 256) ⌝ }
-{
-    x as usize
-}
-
 // A step's byte of a bank.
 fn bus_byte(left: u8, right: u8, bank: usize) -> u8
     requires { ⌜ bank < 2 ⌝ }
@@ -50,7 +44,7 @@ pub fn may_read(map: &[u8], values: &[u8; 11], s: usize) -> bool
         return true;
     }
     let bank = s / 8 % 2;
-    map::readable(map, bank, wide(values[state::ADDRESS + bank]))
+    map::readable(map, bank, crate::wide(values[state::ADDRESS + bank]))
 }
 
 // The source: a register rotated by places, or a bank's field of length l.

@@ -3,7 +3,7 @@
 pub mod act;
 
 ghost use mathlib.Core.Path.{_≡_};
-ghost use Prim.Native.Nat.{ℕ};
+ghost use Prim.Native.Nat.{ℕ, _<_};
 ghost use mathlib.Core.List.{List};
 ghost use Rattle.machine.specs.Step.{cameToStop};
 ghost use Rattle.machine.specs.Parts.{whole, outcome};
@@ -42,4 +42,11 @@ pub fn stop(q: Sequencer, number: usize) -> Effect
         written: 0,
         stop: number,
     }
+}
+
+// A byte as a usize.
+pub fn wide(x: u8) -> usize
+    ensures { λ r. ⌜ (r ≡ x) × (r < 256) ⌝ }
+{
+    x as usize
 }
