@@ -1,9 +1,9 @@
-/* RIPTIDE-II panel programs: reading and writing words, counting a map's sets, admission, reset and run.
+/* RIPTIDE-II panel programs: reading and writing words, counting a map's sets, admission, reset, run and listing.
  *
  * Link target/staticlib/libriptide.a, which `rt staticlib riptide` writes. Every call takes any bytes of any length,
  * ends, and gives one number. A pointer is followed by the count of bytes behind it; with a count of 0 it must still
  * not be null. Bytes lent with `const` are never written, the others only as said. A refusal changes no byte.
- * docs/FORMATS.md has every byte of image, map, state, recording, trace and table.
+ * docs/FORMATS.md has every byte of image, map, state, recording, trace, table and page.
  *
  * Threads: calls keep nothing between them, so any number of threads may call at once with buffers of their own.
  *
@@ -25,8 +25,8 @@ extern "C" {
 #endif
 
 /* 10,000 times the first part, 100 times the second, and the third. */
-#define RIPTIDE_VERSION 20101
-#define RIPTIDE_VERSION_TEXT "2.1.1"
+#define RIPTIDE_VERSION 20200
+#define RIPTIDE_VERSION_TEXT "2.2.0"
 
 /* Lengths. An image has an even count of bytes, 2 at least. */
 #define RIPTIDE_WORD_BYTES 2
@@ -40,6 +40,8 @@ extern "C" {
 #define RIPTIDE_TABLE_RECORD_BYTES 16 /* a table of facts, for each cell */
 #define RIPTIDE_TABLE_WORD_BYTES 144 /* and for each word: one record for each depth, 0 to 8 */
 #define RIPTIDE_TABLE_BYTES(image_length) ((size_t)(image_length) / RIPTIDE_WORD_BYTES * RIPTIDE_TABLE_WORD_BYTES)
+#define RIPTIDE_LINE_BYTES 32 /* a listing page, for each word: its line with the line feed */
+#define RIPTIDE_PAGE_BYTES(image_length) ((size_t)(image_length) / RIPTIDE_WORD_BYTES * RIPTIDE_LINE_BYTES)
 
 /* The number in the low byte of every answer: 0, a refusal, or a stop or finding. */
 #define RIPTIDE_NUMBER(n) ((unsigned)((n) & 0xff))
@@ -52,6 +54,7 @@ extern "C" {
 #define RIPTIDE_REFUSED_RECORDING 15
 #define RIPTIDE_REFUSED_TRACE 16
 #define RIPTIDE_REFUSED_INPUT 18 /* by the bench alone */
+#define RIPTIDE_REFUSED_PAGE 41
 
 /* Stops of a run and findings of admission; the last two are findings alone. */
 #define RIPTIDE_OUTSIDE_CODE 21
@@ -67,7 +70,7 @@ extern "C" {
 /* Whether a number is a refusal: then there is no depth, address or count. */
 static inline int riptide_is_refusal(unsigned number)
 {
-    return number >= RIPTIDE_REFUSED_IMAGE && number <= RIPTIDE_REFUSED_INPUT;
+    return (number >= RIPTIDE_REFUSED_IMAGE && number <= RIPTIDE_REFUSED_INPUT) || number == RIPTIDE_REFUSED_PAGE;
 }
 
 /* What a number says, in a few words. */
@@ -91,6 +94,7 @@ static inline const char *riptide_text(unsigned number)
     case RIPTIDE_STACK_EMPTY: return "a RET with an empty stack";
     case RIPTIDE_NOT_KNOWN: return "an address or a CALL's page is not known";
     case RIPTIDE_XEC_OF_XEC: return "an XEC may execute an XEC";
+    case RIPTIDE_REFUSED_PAGE: return "the page is not 32 bytes for each word";
     default: return "unknown number";
     }
 }
@@ -146,6 +150,11 @@ uint64_t riptide_run(const uint8_t *image, size_t image_length, const uint8_t *m
  * another address than PC only if an XEC was pending. */
 #define RIPTIDE_TRACE_PC(record) ((record)[4] + 256u * (record)[5])
 #define RIPTIDE_TRACE_FETCH(record) ((record)[6] + 256u * (record)[7])
+
+/* Writes the listing of an image: for each word a line of 32 bytes with its address, the word, its mnemonic and its
+ * operands. The page is ASCII, each line ended by a line feed, with no zero byte behind it. 0; or 11 image, 41 page: refused,
+ * nothing changed. */
+uint64_t riptide_list(const uint8_t *image, size_t image_length, uint8_t *page, size_t page_length);
 
 #ifdef __cplusplus
 }

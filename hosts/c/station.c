@@ -1,5 +1,6 @@
 /* What a line-end station does with a program: reads the map and the image from standard input, admits, and, if
- * admitted, runs one pass over a recording of zeros from reset. Build, from the repository's root, after `rt staticlib riptide`:
+ * admitted, prints its listing page and runs one pass over a recording of zeros from reset. Build, from the repository's
+ * root, after `rt staticlib riptide`:
  *   cc -Iinclude hosts/c/station.c target/staticlib/libriptide.a -o target/station
  */
 #include <stdio.h>
@@ -13,6 +14,7 @@
 int main(void)
 {
     static uint8_t input[MOST_INPUT + 1], table[RIPTIDE_TABLE_BYTES(RIPTIDE_MOST_IMAGE_BYTES)];
+    static uint8_t page[RIPTIDE_PAGE_BYTES(RIPTIDE_MOST_IMAGE_BYTES)];
     uint8_t state[RIPTIDE_STATE_BYTES];
     uint8_t recording[RIPTIDE_PAIR_BYTES * PAIRS], trace[RIPTIDE_TRACE_RECORD_BYTES * PAIRS];
     size_t length = fread(input, 1, sizeof input, stdin);
@@ -38,6 +40,8 @@ int main(void)
     uint64_t sets = riptide_count_sets(map, RIPTIDE_MAP_BYTES);
     printf("admitted, left %u %u right %u %u\n", RIPTIDE_LEFT_READABLE(sets), RIPTIDE_LEFT_WRITABLE(sets),
            RIPTIDE_RIGHT_READABLE(sets), RIPTIDE_RIGHT_WRITABLE(sets));
+    riptide_list(image, image_length, page, RIPTIDE_PAGE_BYTES(image_length));
+    fwrite(page, 1, RIPTIDE_PAGE_BYTES(image_length), stdout);
 
     memset(recording, 0, sizeof recording);
     riptide_reset(state, sizeof state);

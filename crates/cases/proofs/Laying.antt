@@ -1,6 +1,6 @@
 -- Bytes on their way to the start of a slice, form by form. Assumes nothing.
 use mathlib.Core.Path.{_≡_, refl, sym, ap, ap₂, _∙_, subst}
-use mathlib.Core.Bool.{Bool, true, false}
+use mathlib.Core.Bool.{true, false}
 use mathlib.Core.List.{List, [], _∷_, _++_, append-nil, append-assoc}
 use Prim.Native.Nat.{ℕ, suc, _+_, _-_, _*_, _≤_, _<_}
 use native.Mathlib.Nat.{add-zero}
@@ -10,10 +10,7 @@ use borrow.Author.Tests.{le-leb, lt-leb, ne-eqb}
 use lib.ListN.{length, take, drop, set, length-append, take-append-drop}
 use lib.Seq.{length-take-le, take-at, drop-at, drop-drop, set-split, sets-eq}
 use Rattle.io.proofs.Counting.{counts}
-use Rattle.word.specs.declared.Word.{Word}
-use Rattle.word.specs.declared.Word.the-variants.{Invalid}
-use Rattle.word.specs.Word.{decoded, isValid}
-use Rattle.word.proofs.Laws.{valid-or-invalid}
+use Rattle.word.specs.Word.{isValid}
 use Rattle.digest.specs.Digest.{nextNumber, numberByte}
 use Rattle.cases.specs.Cases.{hexByteAt, hexFrom, wordBytes, validWords}
 use Rattle.cases.specs.Parts.{Expanded}
@@ -91,17 +88,6 @@ unfolding hexFrom
 hex-full text at f = rw f
 
 -- ---- valid words
-
-module _ (bits : ℕ) (small : bits < 65536) {read : Word} (e : read ≡ decoded bits) where
-  pub is-invalid : read ≡ Invalid → false ≡ isValid bits
-  is-invalid f = sym (valid-or-invalid bits small .0 (sym e ∙ f))
-
-  pub is-valid : (read ≡ Invalid → ⊥) → true ≡ isValid bits
-  is-valid other = either (isValid bits) refl
-    where
-      either : (b : Bool) → isValid bits ≡ b → true ≡ isValid bits
-      either true f = sym f
-      either false f = absurd (other (e ∙ valid-or-invalid bits small .1 f))
 
 module _ (room high low : ℕ) where
   pub no-room : room < 2 → wordBytes room high low ≡ []

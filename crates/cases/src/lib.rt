@@ -4,11 +4,9 @@ ghost use mathlib.Core.List.{_++_};
 ghost use Prim.Native.Nat.{_+_, _-_, _*_, _%_, _≤_, _<_, min};
 ghost use lib.ListN.{length, getD, take, drop};
 ghost use Rattle.io.specs.Counts.{Counts};
-ghost use Rattle.word.specs.Word.{isValid};
 ghost use Rattle.digest.specs.Digest.{generated, inTurn};
 ghost use Rattle.cases.specs.Cases.{placeBehind, digitOf, decimalAt, hexByteAt, hexFrom, wordBytes, validWords, formBytes};
 ghost use Rattle.cases.specs.Parts.{Expanded};
-use word::Word;
 
 // A count, or the length of the bytes where that is less.
 pub fn within(count: usize, bytes: &[u8]) -> usize
@@ -133,15 +131,6 @@ fn fill(high: usize, low: usize, count: usize, out: &mut [u8]) -> usize
     n
 }
 
-fn is_valid(high: u8, low: u8) -> bool
-    ensures { λ r. ⌜ r ≡ isValid (high * 256 + low) ⌝ }
-{
-    let Word::Invalid = word::decode_bytes(high, low) else {
-        return true;
-    };
-    false
-}
-
 // Puts a word at a place where it is valid and there is room for it; the place behind it.
 fn put(out: &mut [u8], at: usize, room: usize, high: u8, low: u8) -> usize
     requires { ⌜ (at ≤ room) × (room ≤ length (now out)) ⌝ }
@@ -150,7 +139,7 @@ fn put(out: &mut [u8], at: usize, room: usize, high: u8, low: u8) -> usize
     if room - at < 2 {
         return at;
     }
-    if !is_valid(high, low) {
+    if !word::is_valid(high, low) {
         return at;
     }
     out[at] = high;

@@ -211,6 +211,87 @@ fn run(s: &[u8], at: usize)
     );
 }
 
+// The lent page is a5 throughout before.
+fn list_over(image: &[u8], page: &mut [u8]) {
+    digest::repeat(165, 165, page);
+    print_number(riptide::riptide_list(image, page));
+    print_digest(b" page_digest=", page);
+}
+
+// Room for the longest page, and a line more.
+fn page_buffer() -> [u8; 262176]
+    ensures { λ r. ⌜ 262176 ≡ length r ⌝ }
+{
+    [0; 262176]
+}
+
+fn list(s: &[u8], at: usize)
+    requires { ⌜ at ≤ length (now s) ⌝ }
+{
+    let mut image = io::large_buffer();
+    let mut page = page_buffer();
+    let image_count = cases::expand(s, at, &mut image);
+    let at2 = cases::after(s, at, b'=');
+    let page_count = cases::within(cases::number(s, at2), &page);
+    list_over(&image[..image_count], &mut page[..page_count]);
+}
+
+// A byte of the words that rise from a first one.
+fn rising_byte(first: u16, k: usize) -> u8 {
+    let word = first as usize + k / 2 % 65536;
+    if k % 2 == 0 {
+        return (word / 256 % 256) as u8;
+    }
+    (word % 256) as u8
+}
+
+fn rise(first: u16, image: &mut [u8]) {
+    let mut k = 0;
+    while k < image.len() {
+        image[k] = rising_byte(first, k);
+        k += 1;
+    }
+}
+
+// An image of 8,192 words, each the one before it and 1.
+fn block(s: &[u8], at: usize)
+    requires { ⌜ at ≤ length (now s) ⌝ }
+{
+    let mut image = [0; 16384];
+    let mut page = [0; 262144];
+    rise(bits_at(s, at), &mut image);
+    list_over(&image, &mut page);
+}
+
+// The last lines of a page, without the line feed of the last one.
+fn print_lines(page: &[u8], count: usize) {
+    let size = cases::within(count % 65536 * 32, page);
+    if size > 0 {
+        io::write_all(1, &page[page.len() - size..page.len() - 1]);
+    }
+}
+
+fn tail_over(image: &[u8], page: &mut [u8], count: usize) {
+    print_number(riptide::riptide_list(image, page));
+    io::write_all(1, b"\n");
+    print_lines(page, count);
+}
+
+fn tail(s: &[u8], at: usize)
+    requires { ⌜ at ≤ length (now s) ⌝ }
+{
+    let mut image = io::large_buffer();
+    let mut page = page_buffer();
+    let image_count = cases::expand(s, at, &mut image);
+    let at2 = cases::after(s, at, b'=');
+    let page_count = cases::within(image_count / 2 * 32, &page);
+    tail_over(
+        &image[..image_count],
+        &mut page[..page_count],
+        cases::number(s, at2),
+    );
+}
+
 // A call by the first letter of its kind.
 fn call(kind: u8, s: &[u8], at: usize)
     requires { ⌜ at ≤ length (now s) ⌝ }
@@ -222,6 +303,9 @@ fn call(kind: u8, s: &[u8], at: usize)
         b'c' => count(s, at),
         b's' => state(s, at),
         b'a' => admit(s, at),
+        b'l' => list(s, at),
+        b'b' => block(s, at),
+        b't' => tail(s, at),
         _ => run(s, at),
     }
 }

@@ -98,7 +98,7 @@ fn digested(sum: u64, l: Listed, w: Written) -> u64 {
 fn taken(t: Tally, bits: u16) -> Tally {
     let w = word::decode(bits);
     let l = fields_of(w);
-    let e = word::encode(w);
+    let e = encoding::encode(w);
     let kind = l.kind;
     let valid = if kind == 13 { 0 } else { 1 };
     Tally {

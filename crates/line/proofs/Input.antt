@@ -10,9 +10,10 @@ use lib.Seq.{take-length, length-take-le}
 use Rattle.choice.specs.Choice.{asked}
 use Rattle.map.specs.Map.{mapLength}
 use Rattle.emulator.specs.Run.{imageFits}
-use Rattle.line.specs.Parts.{Written}
-use Rattle.line.proofs.Writing.{behind}
-use Rattle.line.specs.Line.{doorLine, endText, inputQuestions, wordsLine, lineOf}
+use Rattle.text.specs.Parts.{Written}
+use Rattle.text.proofs.Writing.{behind}
+use Rattle.text.specs.Text.{doorLine, endText}
+use Rattle.line.specs.Line.{inputQuestions, wordsLine, lineOf}
 
 -- the line without its end
 abbrev without-end : List ℕ → List ℕ

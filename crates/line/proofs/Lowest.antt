@@ -21,7 +21,8 @@ use Rattle.admission.specs.declared.AdmitAnswer.the-variants.{Refused, Admitted
 use Rattle.admission.specs.Admission.{filledTable, verdictOf}
 use Rattle.admission.specs.Lowest.{findingIn, Lowest}
 use Rattle.admission.proofs.OneAnswer.{lowest-verdict, verdict-lowest}
-use Rattle.line.specs.Line.{decimal, refusedText, depthText, addressText, endText, doorLine, admittedLine, foundLine, answerLine, wordsLine, lineOf}
+use Rattle.text.specs.Text.{decimal, refusedText, endText, doorLine}
+use Rattle.line.specs.Line.{depthText, addressText, admittedLine, foundLine, answerLine, wordsLine, lineOf}
 use Rattle.line.specs.Lowest.{LineNames}
 use Rattle.line.proofs.Answers.{never-refused}
 

@@ -1,9 +1,9 @@
 -- The line that the bench program prints ("The bench program" of document 01), as bytes of ASCII.
 use mathlib.Core.List.{List, [], _∷_, _++_}
-use Prim.Native.Nat.{ℕ, _+_, _/_, _%_}
-use lib.Dec.{leb, ltb}
+use Prim.Native.Nat.{ℕ}
+use lib.Dec.{leb}
 use lib.ListN.{length, take, drop}
-use Rattle.choice.specs.Choice.{pick, Question, ask, asked}
+use Rattle.choice.specs.Choice.{Question, ask, asked}
 use Rattle.map.specs.Map.{mapLength, countOf}
 use Rattle.machine.specs.Step.{wordCount}
 use Rattle.emulator.specs.Run.{imageFits}
@@ -11,12 +11,7 @@ use Rattle.transfer.specs.Passes.{leastTable}
 use Rattle.admission.specs.declared.AdmitAnswer.{AdmitAnswer}
 use Rattle.admission.specs.declared.AdmitAnswer.the-variants.{Refused, Admitted, Found}
 use Rattle.admission.specs.Admission.{verdictOf}
-
--- "Values are decimal": a number below 1,000, as all of them are, without leading zeros
-unfoldable pub decimal : ℕ → List ℕ
-decimal n =
-    pick (ltb n 10) ((48 + n) ∷ [])
-    (pick (ltb n 100) ((48 + n / 10) ∷ (48 + n % 10) ∷ []) ((48 + n / 100) ∷ (48 + n / 10 % 10) ∷ (48 + n % 10) ∷ []))
+use Rattle.text.specs.Text.{spaceText, endText, refusedText, decimal, doorLine}
 
 -- "admitted words "
 abbrev pub admittedText : List ℕ
@@ -30,14 +25,6 @@ leftText = 32 ∷ 108 ∷ 101 ∷ 102 ∷ 116 ∷ 32 ∷ []
 abbrev pub rightText : List ℕ
 rightText = 32 ∷ 114 ∷ 105 ∷ 103 ∷ 104 ∷ 116 ∷ 32 ∷ []
 
--- " "
-abbrev pub spaceText : List ℕ
-spaceText = 32 ∷ []
-
--- "refused "
-abbrev pub refusedText : List ℕ
-refusedText = 114 ∷ 101 ∷ 102 ∷ 117 ∷ 115 ∷ 101 ∷ 100 ∷ 32 ∷ []
-
 -- " depth "
 abbrev pub depthText : List ℕ
 depthText = 32 ∷ 100 ∷ 101 ∷ 112 ∷ 116 ∷ 104 ∷ 32 ∷ []
@@ -45,14 +32,6 @@ depthText = 32 ∷ 100 ∷ 101 ∷ 112 ∷ 116 ∷ 104 ∷ 32 ∷ []
 -- " address "
 abbrev pub addressText : List ℕ
 addressText = 32 ∷ 97 ∷ 100 ∷ 100 ∷ 114 ∷ 101 ∷ 115 ∷ 115 ∷ 32 ∷ []
-
--- "\n"
-abbrev pub endText : List ℕ
-endText = 10 ∷ []
-
--- "A door number prints as `refused 11`"
-abbrev pub doorLine : ℕ → List ℕ
-doorLine number = refusedText ++ decimal number
 
 -- "how many addresses each of the four sets has"
 abbrev pub setsText : ℕ → ℕ → ℕ → ℕ → List ℕ

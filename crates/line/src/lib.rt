@@ -1,6 +1,6 @@
 // The line that the bench program prints, made from its input.
 ghost use mathlib.Core.Path.{_≡_};
-ghost use mathlib.Core.List.{List, _++_};
+ghost use mathlib.Core.List.{List};
 ghost use mathlib.Core.Bool.{true};
 ghost use Prim.Native.Nat.{ℕ, _+_, _≤_, _<_};
 ghost use lib.ListN.{length, take, drop};
@@ -8,69 +8,19 @@ ghost use Rattle.map.specs.Map.{mapLength};
 ghost use Rattle.choice.specs.Choice.{asked};
 ghost use Rattle.machine.specs.Step.{wordCount};
 ghost use Rattle.emulator.specs.Run.{imageFits};
-ghost use Rattle.line.specs.Line.{decimal, setsText, doorLine, admittedLine, foundLine, inputQuestions, wordsLine, lineOf};
-ghost use Rattle.line.specs.Parts.{Written};
+ghost use Rattle.text.specs.Text.{doorLine};
+ghost use Rattle.text.specs.Parts.{Written};
+ghost use Rattle.line.specs.Line.{setsText, admittedLine, foundLine, inputQuestions, wordsLine, lineOf};
 use admission::AdmitAnswer;
 use map::Counts;
-
-// Puts a text at a place of the line; the place behind it.
-fn put(out: &mut [u8], at: usize, text: &[u8]) -> usize
-    requires { ⌜ at + length (now text) ≤ length (now out) ⌝ }
-    ensures { λ r. ⌜ Written (now (out .entry)) at (now (text .entry)) (now (out .exit)) r ⌝ }
-{
-    let e = at + text.len();
-    bytes::copy(text, &mut out[at..e]);
-    e
-}
-
-// The byte of a digit.
-fn digit(d: usize) -> u8
-    requires { ⌜ d < 10 ⌝ }
-    ensures { λ r. ⌜ r ≡ 48 + d ⌝ }
-{
-    (48 + d) as u8
-}
-
-// Puts a number below 1,000 in decimal.
-fn put_decimal(out: &mut [u8], at: usize, n: usize) -> usize
-    requires { ⌜ (at + 3 ≤ length (now out)) × (n < 1000) ⌝ }
-    ensures { λ r. ⌜ Written (now (out .entry)) at (decimal n) (now (out .exit)) r × (r ≤ at + 3) ⌝ }
-{
-    if n < 10 {
-        let one = [digit(n)];
-        return put(out, at, &one);
-    }
-    if n < 100 {
-        let two = [digit(n / 10), digit(n % 10)];
-        return put(out, at, &two);
-    }
-    let three = [digit(n / 100), digit(n / 10 % 10), digit(n % 10)];
-    put(out, at, &three)
-}
-
-// A text and a number.
-fn put_value(out: &mut [u8], at: usize, text: &[u8], n: usize) -> usize
-    requires { ⌜ (at + length (now text) + 3 ≤ length (now out)) × (n < 1000) ⌝ }
-    ensures { λ r. ⌜ Written (now (out .entry)) at (now (text .entry) ++ decimal n) (now (out .exit)) r × (r ≤ at + length (now (text .entry)) + 3) ⌝ }
-{
-    let b = put(out, at, text);
-    put_decimal(out, b, n)
-}
-
-fn put_door(out: &mut [u8], number: usize) -> usize
-    requires { ⌜ (64 ≤ length (now out)) × (number < 1000) ⌝ }
-    ensures { λ r. ⌜ Written (now (out .entry)) 0 (doorLine number) (now (out .exit)) r × (r < 64) ⌝ }
-{
-    put_value(out, 0, b"refused ", number)
-}
 
 fn put_found(out: &mut [u8], number: usize, depth: usize, address: usize) -> usize
     requires { ⌜ (64 ≤ length (now out)) × (number < 1000) × (depth < 1000) × (address < 1000) ⌝ }
     ensures { λ r. ⌜ Written (now (out .entry)) 0 (foundLine number depth address) (now (out .exit)) r × (r < 64) ⌝ }
 {
-    let b = put_value(out, 0, b"refused ", number);
-    let c = put_value(out, b, b" depth ", depth);
-    put_value(out, c, b" address ", address)
+    let b = text::put_value(out, 0, b"refused ", number);
+    let c = text::put_value(out, b, b" depth ", depth);
+    text::put_value(out, c, b" address ", address)
 }
 
 // How many addresses each of the four sets has.
@@ -78,17 +28,17 @@ fn put_sets(out: &mut [u8], at: usize, a: usize, b: usize, c: usize, d: usize) -
     requires { ⌜ (at + 27 ≤ length (now out)) × (a < 1000) × (b < 1000) × (c < 1000) × (d < 1000) ⌝ }
     ensures { λ r. ⌜ Written (now (out .entry)) at (setsText a b c d) (now (out .exit)) r × (r ≤ at + 27) ⌝ }
 {
-    let e = put_value(out, at, b" left ", a);
-    let f = put_value(out, e, b" ", b);
-    let g = put_value(out, f, b" right ", c);
-    put_value(out, g, b" ", d)
+    let e = text::put_value(out, at, b" left ", a);
+    let f = text::put_value(out, e, b" ", b);
+    let g = text::put_value(out, f, b" right ", c);
+    text::put_value(out, g, b" ", d)
 }
 
 fn put_admitted(out: &mut [u8], words: usize, map: &[u8]) -> usize
     requires { ⌜ (64 ≤ length (now out)) × (words < 1000) × (length (now map) ≡ mapLength) ⌝ }
     ensures { λ r. ⌜ ((image : List ℕ) → words ≡ wordCount image → Written (now (out .entry)) 0 (admittedLine image (now (map .entry))) (now (out .exit)) r) × (r < 64) ⌝ }
 {
-    let a = put_value(out, 0, b"admitted words ", words);
+    let a = text::put_value(out, 0, b"admitted words ", words);
     let Counts::Sets {
         left_readable,
         left_writable,
@@ -125,7 +75,7 @@ fn put_answer(out: &mut [u8], map: &[u8], image: &[u8]) -> usize
     let mut table = table_buffer();
     match admission::admit(image, map, &mut table[..size]) {
         AdmitAnswer::Refused { number } => {
-            return put_door(out, number);
+            return text::put_door(out, number);
         }
         AdmitAnswer::Admitted => {
             return put_admitted(out, words, map);
@@ -146,13 +96,13 @@ fn put_words(out: &mut [u8], input: &[u8]) -> usize
     ensures { λ r. ⌜ Written (now (out .entry)) 0 (asked (inputQuestions (now (input .entry))) (wordsLine (take mapLength (now (input .entry))) (drop mapLength (now (input .entry)))) doorLine) (now (out .exit)) r × (r < 64) ⌝ }
 {
     if input.len() < map::LENGTH {
-        return put_door(out, 12);
+        return text::put_door(out, 12);
     }
     if 928 < input.len() {
-        return put_door(out, 18);
+        return text::put_door(out, 18);
     }
     if !emulator::image_fits(&input[map::LENGTH..]) {
-        return put_door(out, 11);
+        return text::put_door(out, 11);
     }
     put_answer(out, &input[..map::LENGTH], &input[map::LENGTH..])
 }
@@ -163,5 +113,5 @@ pub fn line(input: &[u8], out: &mut [u8]) -> usize
     ensures { λ r. ⌜ (take r (now (out .exit)) ≡ lineOf (now (input .entry))) × (r ≤ length (now (out .exit))) ⌝ }
 {
     let e = put_words(out, input);
-    put(out, e, b"\n")
+    text::put(out, e, b"\n")
 }

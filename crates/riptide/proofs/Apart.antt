@@ -7,25 +7,29 @@ use mathlib.Core.Path.{_≡_, refl, sym, ap, _∙_}
 use Prim.Native.Nat.{ℕ, _+_, _*_, _%_, _^_, _≤_, _<_}
 use native.Mathlib.Nat.{mod-eq-of-lt}
 use native.Mathlib.Omega.{arith}
-use lib.Dec.{ltb, eqb}
+use lib.Dec.{eqb}
+use lib.ListN.{length}
 use borrow.Author.Tests.{eq-eqb, ne-eqb, lt-ltb, le-ltb}
-use Rattle.choice.proofs.Laws.{and-both}
+use Rattle.choice.specs.Choice.{pick}
+use Rattle.choice.proofs.Laws.{pick-both, and-both}
 use Rattle.map.specs.declared.Counts.{Counts}
 use Rattle.map.specs.declared.Counts.the-variants.{Sets, Refused as NotCounted}
 use Rattle.map.specs.Map.{counted}
 use Rattle.state.specs.State.{EachBelow}
 use Rattle.emulator.specs.declared.RunAnswer.{RunAnswer}
 use Rattle.emulator.specs.declared.RunAnswer.the-variants.{Refused, Ended}
-use Rattle.emulator.specs.Run.{pairCount, runResult}
+use Rattle.machine.specs.Step.{wordCount}
+use Rattle.emulator.specs.Run.{pairCount, imageFits, runResult}
 use Rattle.emulator.proofs.Range.{Ranged as RangedRun, answer-ranged as run-ranged}
 use Rattle.admission.specs.declared.AdmitAnswer.{AdmitAnswer}
 use Rattle.admission.specs.declared.AdmitAnswer.the-variants.{Refused as NotAdmitted, Admitted, Found}
 use Rattle.admission.specs.Admission.{admitResult}
 use Rattle.admission.proofs.Range.{Ranged, answer-ranged}
+use Rattle.listing.specs.Listing.{lineLength, ListResult, pageRefused, wholePage, listResult}
 use Rattle.numbers.specs.Words.{bitsFrom, numberIn}
 use Rattle.numbers.proofs.Words.{part-apart}
 use Rattle.riptide.specs.Numbers.{setsNumber, countNumber, foundNumber, admitNumber, runNumber}
-use Rattle.riptide.specs.Numbers.{isRefusal, countsIn, admitAnswerIn, runAnswerIn}
+use Rattle.riptide.specs.Numbers.{isRefusal, countsIn, admitAnswerIn, runAnswerIn, listAnswerIn}
 use Rattle.riptide.proofs.Counted.{Small, small}
 
 -- ---- counts
@@ -103,3 +107,15 @@ pub run-apart : (image map state recording trace : List ℕ) → EachBelow 256 i
 run-apart image map state recording trace bytes before pairs few =
     run-answer-apart (pairCount recording) (runResult image map state recording trace .answer) few
     (run-ranged image map state recording trace bytes before pairs)
+
+-- ---- listings
+
+pub list-apart : (image page : List ℕ) → listAnswerIn (listResult image page .number) ≡ listResult image page .answer
+unfolding listResult
+list-apart image page =
+    pick-both Apart (imageFits image) {x = pick (eqb (length page) (lineLength * wordCount image)) (wholePage image) (pageRefused page 41)} {y = pageRefused page 11}
+    (pick-both Apart (eqb (length page) (lineLength * wordCount image)) {x = wholePage image} {y = pageRefused page 41} refl refl)
+    refl
+  where
+    Apart : ListResult → Type 0
+    Apart r = listAnswerIn (r .number) ≡ r .answer

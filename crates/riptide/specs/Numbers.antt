@@ -9,6 +9,8 @@ use Rattle.admission.specs.declared.AdmitAnswer.{AdmitAnswer}
 use Rattle.admission.specs.declared.AdmitAnswer.the-variants.{Refused as NotAdmitted, Admitted, Found}
 use Rattle.emulator.specs.declared.RunAnswer.{RunAnswer}
 use Rattle.emulator.specs.declared.RunAnswer.the-variants.{Refused, Ended}
+use Rattle.listing.specs.declared.ListAnswer.{ListAnswer}
+use Rattle.listing.specs.declared.ListAnswer.the-variants.{Listed, Refused as NotListed}
 use Rattle.numbers.specs.Words.{bitsFrom, numberIn}
 
 -- riptide_count_sets: the four counts, each in 12 bits from bit 8 on; or 12
@@ -34,11 +36,11 @@ abbrev pub runNumber : RunAnswer → ℕ
 runNumber (Refused number) = number
 runNumber (Ended count stop) = count % 2 ^ 56 * 256 + stop % 256
 
--- riptide_is_refusal, of a RIPTIDE_NUMBER
+-- riptide_is_refusal, of a RIPTIDE_NUMBER that admission or a run gives; 41 is listing's alone
 abbrev pub isRefusal : ℕ → Bool
 isRefusal number = ltb 0 number && ltb number 21
 
--- The answers that the numbers stand for: the four counts; RIPTIDE_DEPTH and RIPTIDE_ADDRESS; RIPTIDE_COUNT.
+-- The answers that the numbers stand for: the four counts; RIPTIDE_DEPTH and RIPTIDE_ADDRESS; RIPTIDE_COUNT; a listing's.
 abbrev pub countsIn : ℕ → Counts
 countsIn n =
     pick (eqb (numberIn n) 0) (Sets (bitsFrom 8 12 n) (bitsFrom 20 12 n) (bitsFrom 32 12 n) (bitsFrom 44 12 n)) NotCounted
@@ -50,3 +52,6 @@ admitAnswerIn n =
 
 abbrev pub runAnswerIn : ℕ → RunAnswer
 runAnswerIn n = pick (isRefusal (numberIn n)) (Refused (numberIn n)) (Ended (bitsFrom 8 56 n) (numberIn n))
+
+abbrev pub listAnswerIn : ℕ → ListAnswer
+listAnswerIn n = pick (eqb n 0) Listed (NotListed n)

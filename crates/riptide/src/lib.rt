@@ -6,10 +6,12 @@ ghost use Rattle.map.specs.Map.{counted};
 ghost use Rattle.state.specs.State.{resetNumberOf, resetState};
 ghost use Rattle.emulator.specs.Run.{runResult};
 ghost use Rattle.admission.specs.Admission.{admitResult};
+ghost use Rattle.listing.specs.Listing.{listResult};
 ghost use Rattle.numbers.specs.Words.{readNumber, wordFrom, writeNumber};
 ghost use Rattle.riptide.specs.Numbers.{setsNumber, countNumber, foundNumber, admitNumber, runNumber};
 use admission::AdmitAnswer;
 use emulator::RunAnswer;
+use listing::ListAnswer;
 use map::Counts;
 use state::ResetAnswer;
 use word::Encoding;
@@ -27,7 +29,7 @@ pub extern "C" fn riptide_read_word(word: u16) -> u64
 pub extern "C" fn riptide_write_word(op: usize, a: usize, b: usize, c: usize) -> u64
     ensures { λ r. ⌜ r ≡ writeNumber (encoded (wordFrom op a b c)) ⌝ }
 {
-    match word::encode(numbers::word_from(op, a, b, c)) {
+    match encoding::encode(numbers::word_from(op, a, b, c)) {
         Encoding::Bits(w) => {
             return w as u64 * 256;
         }
@@ -128,5 +130,16 @@ pub extern "C" fn riptide_run(
         RunAnswer::Ended { count, stop } => {
             return count as u64 % 72057594037927936 * 256 + stop as u64 % 256;
         }
+    }
+}
+
+// 0 and the page; or the refusal 11 or 41, and the bytes as they were.
+#[no_mangle]
+pub extern "C" fn riptide_list(image: &[u8], page: &mut [u8]) -> u64
+    ensures { λ r. ⌜ (r ≡ listResult (now (image .entry)) (now (page .entry)) .number) × (now (page .exit) ≡ listResult (now (image .entry)) (now (page .entry)) .page) ⌝ }
+{
+    match listing::list(image, page) {
+        ListAnswer::Listed => return 0,
+        ListAnswer::Refused { number } => return number as u64,
     }
 }

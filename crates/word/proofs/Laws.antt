@@ -228,6 +228,18 @@ module _ (w : ℕ) (small : w < 65536) where
 pub valid-or-invalid : (w : ℕ) → w < 65536 → (decoded w ≡ Invalid) ↔ (isValid w ≡ false)
 valid-or-invalid w h = reads w h .valid
 
+-- so what is read tells whether a word is listed
+module _ (w : ℕ) (small : w < 65536) {read : Word} (e : read ≡ decoded w) where
+  pub is-invalid : read ≡ Invalid → false ≡ isValid w
+  is-invalid f = sym (valid-or-invalid w small .0 (sym e ∙ f))
+
+  pub is-valid : (read ≡ Invalid → ⊥) → true ≡ isValid w
+  is-valid other = either (isValid w) refl
+    where
+      either : (b : Bool) → isValid w ≡ b → true ≡ isValid w
+      either true f = sym f
+      either false f = absurd (other (e ∙ valid-or-invalid w small .1 f))
+
 -- A listed word, read and written again, is the same word.
 pub read-then-write : (w : ℕ) → w < 65536 → isValid w ≡ true → encoded (decoded w) ≡ Bits w
 read-then-write w h = reads w h .written

@@ -13,6 +13,7 @@
 
 pub mod admissions;
 pub mod library;
+pub mod pages;
 pub mod runs;
 pub mod sums;
 pub mod values;
@@ -94,12 +95,13 @@ fn valid_words(seed: u32, count: usize) -> Vec<u8> {
 }
 
 /// A case as its line gives it: a word and a name, what is lent, and what
-/// comes out of it.
+/// comes out of it, with the lines that come below it.
 #[derive(Clone)]
 pub struct Entry {
     pub name: String,
     pub given: Vec<(&'static str, String)>,
     pub gives: Vec<(&'static str, String)>,
+    pub below: Vec<String>,
 }
 
 fn with_fields(name: &str, fields: &[(&str, String)]) -> String {
@@ -119,7 +121,8 @@ impl Entry {
 
     /// What it must write.
     pub fn output(&self) -> String {
-        with_fields(&self.name, &self.gives)
+        let line = with_fields(&self.name, &self.gives);
+        self.below.iter().fold(line, |lines, below| lines + "\n" + below)
     }
 
     /// The case without one of the fields that come out.

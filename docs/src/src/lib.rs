@@ -7,6 +7,7 @@ pub mod bench;
 pub mod cases;
 pub mod digest;
 pub mod direct;
+pub mod listing;
 pub mod machine;
 pub mod map;
 pub mod naive;

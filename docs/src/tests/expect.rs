@@ -32,14 +32,14 @@ fn bytes(case: &HashMap<String, String>, key: &str) -> Vec<u8> {
     spec.expand()
 }
 
-/// Byte for byte, and the programs of the gate have no other.
+/// Byte for byte, the programs of the gate have no other, and no sample is without
+/// its listing.
 #[test]
 fn files_are_as_generated() {
     let root = Path::new(concat!(env!("CARGO_MANIFEST_DIR"), "/../.."));
     let files = stored::files();
     for (path, contents) in &files {
-        let found =
-            std::fs::read_to_string(root.join(path)).unwrap_or_else(|e| panic!("{path}: {e}"));
+        let found = std::fs::read(root.join(path)).unwrap_or_else(|e| panic!("{path}: {e}"));
         assert!(found == *contents, "{path} is not what regenerate.sh writes");
     }
     for entry in std::fs::read_dir(root.join("crates")).unwrap() {
@@ -49,6 +49,15 @@ fn files_are_as_generated() {
             let checks = name.starts_with("check_") && root.join(&path).exists();
             assert!(known || !checks, "stored::files does not give {path}");
         }
+    }
+    for entry in std::fs::read_dir(root.join("samples")).unwrap() {
+        let name = entry.unwrap().file_name().into_string().unwrap();
+        let Some((sample, "bin" | "lst")) = name.split_once('.') else { continue };
+        let path = format!("samples/{sample}.lst");
+        assert!(
+            files.iter().any(|(known, _)| *known == path),
+            "stored::files does not give {path}"
+        );
     }
 }
 

@@ -15,6 +15,9 @@ pub const STATE_BYTES: usize = 36;
 /// The length of a trace's record of one step.
 pub const TRACE_RECORD_BYTES: usize = 8;
 
+/// The length of a listing page's line of one word, its line feed included.
+pub const LINE_BYTES: usize = 32;
+
 /// How many bytes the table of facts of an image has.
 pub fn table_length(image: &[u8]) -> usize {
     image.len() / 2 * 144
@@ -25,7 +28,12 @@ pub fn trace_length(recording: &[u8]) -> usize {
     recording.len() / 2 * TRACE_RECORD_BYTES
 }
 
-/// What a number says, in a few words: a refusal 11 to 18, or a stop or finding 21 to 29.
+/// How many bytes the listing page of an image has.
+pub fn page_length(image: &[u8]) -> usize {
+    image.len() / 2 * LINE_BYTES
+}
+
+/// What a number says, in a few words: a refusal 11 to 18 or 41, or a stop or finding 21 to 29.
 pub fn text(number: u8) -> &'static str {
     match number {
         0 => "no refusal, stop or finding",
@@ -45,6 +53,7 @@ pub fn text(number: u8) -> &'static str {
         27 => "a RET with an empty stack",
         28 => "an address or a CALL's page is not known",
         29 => "an XEC may execute an XEC",
+        41 => "the page is not 32 bytes for each word",
         _ => "unknown number",
     }
 }
@@ -54,7 +63,7 @@ pub fn text(number: u8) -> &'static str {
 pub struct Refusal(u8);
 
 impl Refusal {
-    /// Which question got a no: 11 image, 12 map, 13 table, 14 state, 15 recording, 16 trace; or 22, no valid word.
+    /// Which question got a no: 11 image, 12 map, 13 table, 14 state, 15 recording, 16 trace, 41 page; or 22, no valid word.
     pub fn number(self) -> u8 {
         self.0
     }
@@ -102,6 +111,7 @@ mod raw {
             trace: *mut u8,
             trace_len: usize,
         ) -> u64;
+        pub fn riptide_list(image: *const u8, image_len: usize, page: *mut u8, page_len: usize) -> u64;
     }
 }
 
@@ -250,4 +260,11 @@ pub fn records(trace: &[u8]) -> impl ExactSizeIterator<Item = TraceRecord> + '_ 
         pc: u16::from_le_bytes([record[4], record[5]]),
         fetch: u16::from_le_bytes([record[6], record[7]]),
     })
+}
+
+/// Writes the listing of an image into a page: a line of 32 bytes of ASCII for each word; 11 for an image of another
+/// length, 41 for a page of another length.
+pub fn list(image: &[u8], page: &mut [u8]) -> Result<(), Refusal> {
+    unrefused(unsafe { raw::riptide_list(image.as_ptr(), image.len(), page.as_mut_ptr(), page.len()) })?;
+    Ok(())
 }

@@ -1,9 +1,12 @@
 //! The library against the independent reference: random images, maps, states, recordings and tables, valid and damaged.
 //! `RIPTIDE_CASES` sets how many cases are run (default 20,000).
 
-use riptide::{admit, count_sets, read_word, records, reset, run, table_length, trace_length, write_word};
+use riptide::{
+    admit, count_sets, list, page_length, read_word, records, reset, run, table_length, trace_length, write_word,
+};
 use riptide::{AdmitAnswer, Fields, Refusal, RunAnswer, TraceRecord};
 use riptide_reference::digest::Random;
+use riptide_reference::listing;
 use riptide_reference::programs::{bytes_of, damage, random_map, random_program, random_state, random_words};
 use riptide_reference::programs::{sum_words, with_return_bytes};
 use riptide_reference::run as reference;
@@ -279,6 +282,45 @@ fn sets_counted() {
         compare_counts(&random_map(&mut random));
         compare_counts(&random_bytes(&mut random, 128));
     }
+}
+
+/// The library's number and page, held against the reference's.
+fn compare_pages(image: &[u8], before: &[u8]) -> u8 {
+    let (mut ours, mut theirs) = (before.to_vec(), before.to_vec());
+    let number = list(image, &mut ours).map_or_else(Refusal::number, |()| 0);
+    assert_eq!(number, listing::list(image, &mut theirs), "{} and {} bytes", image.len(), before.len());
+    assert!(ours == theirs, "{} words", image.len() / 2);
+    number
+}
+
+#[test]
+fn every_word_listed() {
+    for first in (0..=u16::MAX).step_by(8192) {
+        let words: Vec<u16> = (first..=first + 8191).collect();
+        assert_eq!(compare_pages(&bytes_of(&words), &[0xa5; 262_144]), 0);
+    }
+}
+
+#[test]
+fn images_listed_or_refused() {
+    let mut random = Random(0x11_57);
+    let mut numbers = [0; 42];
+    for _ in 0..cases() {
+        let count = random.below(600);
+        let mut image = random_bytes(&mut random, count);
+        if random.chance(90) {
+            image.truncate(image.len() / 2 * 2);
+        }
+        let length = match random.below(10) {
+            0 => random.below(20_000),
+            1 => page_length(&image) + 1,
+            2 => page_length(&image).saturating_sub(1),
+            _ => page_length(&image),
+        };
+        let page = random_bytes(&mut random, length);
+        numbers[compare_pages(&image, &page) as usize] += 1;
+    }
+    assert!(numbers[0] > 0 && numbers[11] > 0 && numbers[41] > 0, "{numbers:?}");
 }
 
 #[test]

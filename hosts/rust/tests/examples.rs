@@ -1,7 +1,8 @@
 //! The examples in C and for the shell, compiled and run: what they print is what the guide and the samples say. Those in
 //! Rust are run as documentation of the crate. And the header: as C and as C++, with the numbers and texts of the crate.
 
-use riptide::{admit, records, table_length, text, AdmitAnswer, MAP_BYTES, STATE_BYTES, TRACE_RECORD_BYTES};
+use riptide::{admit, list, page_length, records, table_length, text, AdmitAnswer};
+use riptide::{LINE_BYTES, MAP_BYTES, STATE_BYTES, TRACE_RECORD_BYTES};
 use riptide_reference::programs::{bytes_of, map_of};
 use std::fs;
 use std::path::{Path, PathBuf};
@@ -84,8 +85,8 @@ fn the_guide_in_c() {
 
 #[test]
 fn the_guide_in_a_shell() {
-    if !root().join("target/bin/bench").exists() {
-        println!("skipped: there is no target/bin/bench, which `rt check bench` writes");
+    if !["bench", "list"].iter().all(|name| root().join("target/bin").join(name).exists()) {
+        println!("skipped: target/bin/bench or list is not there, which `rt check bench` and `rt check list` write");
         return;
     }
     for (text, prints) in examples("sh") {
@@ -94,6 +95,15 @@ fn the_guide_in_a_shell() {
     let refused = "target/bin/bench < samples/odometer.bin; echo $?";
     let printed = output(Command::new("sh").args(["-uc", refused]), Stdio::null());
     assert_eq!(printed, "refused 28 depth 0 address 3\n0\n");
+    let listed = |bytes: usize| {
+        let zeros = format!("head -c {bytes} /dev/zero | target/bin/list");
+        output(Command::new("sh").args(["-euc", &zeros]), Stdio::null())
+    };
+    for bytes in [0, 3, 16_386, 100_000] {
+        assert_eq!(listed(bytes), "refused 11\n", "{bytes} bytes");
+    }
+    let page = listed(16_384);
+    assert_eq!((page.len(), page.lines().last()), (262_144, Some("17777 000000 MOVE 00 0 00      ")));
 }
 
 #[test]
@@ -105,7 +115,8 @@ fn the_station_in_c() {
     };
     for name in ["indicator", "routine", "chooser", "carry"] {
         let admitted = station(&format!("samples/{name}.bin"));
-        assert_eq!(admitted, "admitted, left 1 0 right 0 1\nran 1000 steps, stop 0\n", "{name}");
+        let page = read(&format!("samples/{name}.lst"));
+        assert_eq!(admitted, format!("admitted, left 1 0 right 0 1\n{page}ran 1000 steps, stop 0\n"), "{name}");
     }
     assert_eq!(
         station("samples/odometer.bin"),
@@ -131,18 +142,18 @@ int main(void)
 {
     const unsigned lengths[] = {RIPTIDE_VERSION, RIPTIDE_MAP_BYTES, 4 * RIPTIDE_SET_BYTES, RIPTIDE_STATE_BYTES,
         RIPTIDE_MOST_IMAGE_BYTES, RIPTIDE_WORD_BYTES * RIPTIDE_MOST_WORDS, RIPTIDE_TABLE_WORD_BYTES,
-        9 * RIPTIDE_TABLE_RECORD_BYTES, RIPTIDE_PAIR_BYTES, RIPTIDE_TRACE_RECORD_BYTES,
+        9 * RIPTIDE_TABLE_RECORD_BYTES, RIPTIDE_PAIR_BYTES, RIPTIDE_TRACE_RECORD_BYTES, RIPTIDE_LINE_BYTES,
         RIPTIDE_REFUSED_IMAGE, RIPTIDE_REFUSED_MAP, RIPTIDE_REFUSED_TABLE, RIPTIDE_REFUSED_STATE,
         RIPTIDE_REFUSED_RECORDING, RIPTIDE_REFUSED_TRACE, RIPTIDE_REFUSED_INPUT, RIPTIDE_OUTSIDE_CODE,
         RIPTIDE_INVALID_WORD, RIPTIDE_NOT_READABLE, RIPTIDE_NOT_WRITABLE, RIPTIDE_NOT_LISTED, RIPTIDE_STACK_FULL,
-        RIPTIDE_STACK_EMPTY, RIPTIDE_NOT_KNOWN, RIPTIDE_XEC_OF_XEC};
+        RIPTIDE_STACK_EMPTY, RIPTIDE_NOT_KNOWN, RIPTIDE_XEC_OF_XEC, RIPTIDE_REFUSED_PAGE};
     const uint8_t record[RIPTIDE_TRACE_RECORD_BYTES] = {0, 0, 0, 0, 0x34, 0x12, 0xff, 0xfe};
     size_t i;
     unsigned number;
     puts(RIPTIDE_VERSION_TEXT);
     for (i = 0; i < sizeof lengths / sizeof lengths[0]; i++)
         printf("%u ", lengths[i]);
-    printf("%lu\n", (unsigned long)RIPTIDE_TABLE_BYTES(7));
+    printf("%lu %lu\n", (unsigned long)RIPTIDE_TABLE_BYTES(7), (unsigned long)RIPTIDE_PAGE_BYTES(7));
     printf("%u %u\n", RIPTIDE_TRACE_PC(record), RIPTIDE_TRACE_FETCH(record));
     for (number = 0; number < 256; number++)
         printf("%u %d %s\n", number, riptide_is_refusal(number), riptide_text(number));
@@ -152,14 +163,15 @@ int main(void)
 
 #[test]
 fn the_header_in_c_and_cpp() {
-    let mut expected = format!("{}\n20101 ", env!("CARGO_PKG_VERSION"));
-    expected += &format!("{MAP_BYTES} {MAP_BYTES} {STATE_BYTES} 16384 16384 144 144 2 {TRACE_RECORD_BYTES} ");
-    expected += "11 12 13 14 15 16 18 21 22 23 24 25 26 27 28 29 ";
-    expected += &format!("{}\n", table_length(&[0; 7]));
+    let mut expected = format!("{}\n20200 ", env!("CARGO_PKG_VERSION"));
+    expected +=
+        &format!("{MAP_BYTES} {MAP_BYTES} {STATE_BYTES} 16384 16384 144 144 2 {TRACE_RECORD_BYTES} {LINE_BYTES} ");
+    expected += "11 12 13 14 15 16 18 21 22 23 24 25 26 27 28 29 41 ";
+    expected += &format!("{} {}\n", table_length(&[0; 7]), page_length(&[0; 7]));
     let record = records(&[0, 0, 0, 0, 0x34, 0x12, 0xff, 0xfe]).next().expect("a record");
     expected += &format!("{} {}\n", record.pc, record.fetch);
     for number in 0..=255 {
-        let refusal = u8::from((11..=18).contains(&number));
+        let refusal = u8::from((11..=18).contains(&number) || number == 41);
         expected += &format!("{number} {refusal} {}\n", text(number));
     }
     for (compiler, name) in [(C, "header.c"), (CPP, "header.cpp")] {
@@ -214,6 +226,23 @@ fn findings_of_the_guide() {
     }
 }
 
+/// Each sample's stored listing is the library's page.
+#[test]
+fn listings_of_the_samples() {
+    let mut samples = 0;
+    for entry in fs::read_dir(root().join("samples")).expect("samples") {
+        let path = entry.expect("a file").path();
+        if path.extension().is_some_and(|extension| extension == "bin") {
+            let image = &fs::read(&path).expect("a sample")[MAP_BYTES..];
+            let mut page = vec![0; page_length(image)];
+            list(image, &mut page).expect("an image");
+            assert!(page == fs::read(path.with_extension("lst")).expect("its listing"), "{}", path.display());
+            samples += 1;
+        }
+    }
+    assert_eq!(samples, 6);
+}
+
 /// Bytes in hexadecimal, where `00*9` is nine bytes 00.
 fn bytes_in(text: &str) -> Vec<u8> {
     let byte = |digits: &str| u8::from_str_radix(digits, 16).expect(digits);
@@ -230,7 +259,8 @@ int main(void)
 {
     static uint8_t table[RIPTIDE_TABLE_BYTES(sizeof image)], table2[RIPTIDE_TABLE_BYTES(sizeof image2)];
     uint8_t state[RIPTIDE_STATE_BYTES], trace[sizeof recording / RIPTIDE_PAIR_BYTES * RIPTIDE_TRACE_RECORD_BYTES];
-    uint64_t numbers[6];
+    uint8_t page[RIPTIDE_PAGE_BYTES(sizeof image)];
+    uint64_t numbers[7];
     int i;
     riptide_reset(state, sizeof state);
     numbers[0] = riptide_read_word(0x173f);
@@ -240,11 +270,14 @@ int main(void)
     numbers[4] = riptide_run(image, sizeof image, map, sizeof map, state, sizeof state, recording, sizeof recording,
                              trace, sizeof trace);
     numbers[5] = riptide_admit(image2, sizeof image2, map2, sizeof map2, table2, sizeof table2);
+    numbers[6] = riptide_list(image, sizeof image, page, sizeof page - 1);
+    riptide_list(image, sizeof image, page, sizeof page);
     fwrite(trace, 1, sizeof trace, stdout);
     fwrite(state, 1, sizeof state, stdout);
     fwrite(table + RIPTIDE_TABLE_RECORD_BYTES * 2, 1, RIPTIDE_TABLE_RECORD_BYTES, stdout);
     fwrite(table2 + RIPTIDE_TABLE_RECORD_BYTES * 3, 1, RIPTIDE_TABLE_RECORD_BYTES, stdout);
-    for (i = 0; i < 6; i++)
+    fwrite(page, 1, sizeof page, stdout);
+    for (i = 0; i < 7; i++)
         printf("%016llX\n", (unsigned long long)numbers[i]);
     return 0;
 }
@@ -264,6 +297,7 @@ fn the_formats_in_c() {
     let program = compiled(C, &source("formats.c", &(text + FORMATS)));
     let printed = Command::new(program).output().expect("it runs").stdout;
     let mut expected = ["trace", "state", "record", "odometer"].map(|name| bytes_in(part(name))).concat();
+    expected.extend(part("page").lines().flat_map(|line| format!("{line:<31}\n").into_bytes()));
     expected.extend(part("numbers").bytes());
     assert_eq!(printed, expected);
 }

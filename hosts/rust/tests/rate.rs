@@ -1,10 +1,12 @@
 //! Steps per second of the library beside the direct Rust emulator, over the same 32,768 pairs, repeated; seconds of
-//! admission for the images of 8,192 words that `docs/RATES.md` names, where it is said how these are run; and maps whose
-//! sets are counted.
+//! admission for the images of 8,192 words that `docs/RATES.md` names, where it is said how these are run; maps whose sets are
+//! counted; and words listed.
 
-use riptide::{admit, count_sets, run, table_length, AdmitAnswer, RunAnswer, MAP_BYTES, TRACE_RECORD_BYTES};
+use riptide::{admit, count_sets, list, page_length, run, table_length, AdmitAnswer, RunAnswer};
+use riptide::{MAP_BYTES, TRACE_RECORD_BYTES};
 use riptide_reference::digest::{lcg_bytes, Digest};
 use riptide_reference::direct;
+use riptide_reference::listing::page_of;
 use riptide_reference::map::counts_by_words;
 use riptide_reference::programs::{bytes_of, timing_map, timing_words};
 use std::collections::HashSet;
@@ -217,5 +219,29 @@ fn sets_counted() {
         let (theirs, their_sums) = counted(&maps, |map| counts_by_words(map).expect("a map"));
         assert_eq!(our_sums, their_sums);
         println!("library {ours:.1}, Rust with count_ones {theirs:.1} ns a map; sums {our_sums:?}");
+    }
+}
+
+/// The fastest time of a word in two hundred passes over a page.
+fn listed(mut once: impl FnMut()) -> f64 {
+    let mut fastest = f64::INFINITY;
+    for _ in 0..200 {
+        let started = Instant::now();
+        once();
+        fastest = fastest.min(started.elapsed().as_secs_f64());
+    }
+    fastest * 1e9 / WORDS as f64
+}
+
+#[test]
+#[ignore]
+fn words_listed() {
+    let image = lcg_bytes(1, 2 * WORDS);
+    for _ in 0..3 {
+        let (mut ours, mut theirs) = (vec![0; page_length(&image)], Vec::new());
+        let library = listed(|| list(&image, &mut ours).expect("a page"));
+        let reference = listed(|| theirs = page_of(&image));
+        assert!(ours == theirs);
+        println!("library {library:.1}, reference {reference:.1} ns a word");
     }
 }

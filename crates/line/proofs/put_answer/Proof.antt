@@ -3,7 +3,7 @@ use borrow.Author.Needs.{needs}
 use mathlib.Core.Path.{refl}
 use denote.Ref.{now}
 use native.Mathlib.Omega.{arith}
-use Rattle.line.proofs.Writing.{the-same}
+use Rattle.text.proofs.Writing.{the-same}
 use Rattle.line.proofs.Answers.{part-long, verdict, the-line, never-refused, small-found}
 use Rattle.line.proofs.put_answer.Statement.{statement}
 use Rattle.line.proofs.put_answer.Tie as tie

@@ -2,8 +2,9 @@
 use borrow.Author.Needs.{needs}
 use mathlib.Core.Path.{sym, _∙_}
 use denote.Ref.{now}
+use native.Mathlib.Omega.{arith}
 use borrow.Author.Tests.{not-true, not-false}
-use Rattle.line.proofs.Writing.{the-same}
+use Rattle.text.proofs.Writing.{the-same}
 use Rattle.line.proofs.Input.{map-long, rest-most, refused-12, refused-18, refused-11, let-in}
 use Rattle.line.proofs.put_words.Statement.{statement}
 use Rattle.line.proofs.put_words.Tie as tie
@@ -11,18 +12,18 @@ use Rattle.line.proofs.put_words.Tie as tie
 returns : tie.Need-returns
 returns c =
     let w = c .before .before .put-door .ensures in
-    (the-same (w .0) (refused-12 (now (c .before .before .before .before .before .before .before .args .input)) (c .before .before .before .before .if1 .taken)), w .1)
+    (the-same (w .0) (refused-12 (now (c .before .before .before .before .before .before .before .args .input)) (c .before .before .before .before .if1 .taken)), omega (arith, w .1))
 
 returns-2 : tie.Need-returns-2
 returns-2 c =
     let w = c .before .before .put-door2 .ensures in
-    (the-same (w .0) (refused-18 (now (c .before .before .before .before .before .before .before .before .args .input)) (c .before .before .before .before .before .if1 .left) (c .before .before .before .before .if2 .taken)), w .1)
+    (the-same (w .0) (refused-18 (now (c .before .before .before .before .before .before .before .before .args .input)) (c .before .before .before .before .before .if1 .left) (c .before .before .before .before .if2 .taken)), omega (arith, w .1))
 
 returns-3 : tie.Need-returns-3
 returns-3 c =
     let w = c .before .before .put-door3 .ensures in
     let fits = c .before .before .before .before .before .image-fits .ensures in
-    (the-same (w .0) (refused-11 (now (c .before .before .before .before .before .before .before .before .before .before .before .args .input)) (c .before .before .before .before .before .before .before .before .if1 .left) (c .before .before .before .before .before .before .before .if2 .left) (sym fits ∙ not-true _ (c .before .before .before .before .if3 .taken))), w .1)
+    (the-same (w .0) (refused-11 (now (c .before .before .before .before .before .before .before .before .before .before .before .args .input)) (c .before .before .before .before .before .before .before .before .if1 .left) (c .before .before .before .before .before .before .before .if2 .left) (sym fits ∙ not-true _ (c .before .before .before .before .if3 .taken))), omega (arith, w .1))
 
 slice-aggregate-put-answer : tie.Need-slice-aggregate-put-answer
 slice-aggregate-put-answer c = sym (map-long (now (c .before .before .before .before .before .before .before .before .before .args .input)) (c .before .before .before .before .before .before .if1 .left))

@@ -9,7 +9,7 @@ fn main() -> std::io::Result<()> {
     let named = std::env::args_os().nth(1).map(PathBuf::from);
     let root = named.unwrap_or_else(|| concat!(env!("CARGO_MANIFEST_DIR"), "/../..").into());
     for (path, contents) in stored::files() {
-        println!("{path}: {} lines", contents.lines().count());
+        println!("{path}: {} bytes", contents.len());
         let path = root.join(path);
         fs::create_dir_all(path.parent().expect("a file is in a folder"))?;
         fs::write(path, contents)?;

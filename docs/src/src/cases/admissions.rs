@@ -58,6 +58,7 @@ impl Case {
                 ("sweeps", answer.sweeps.to_string()),
                 ("table_digest", Digest::text(&table)),
             ],
+            below: vec![],
         }
     }
 
@@ -68,6 +69,7 @@ impl Case {
             name: format!("bench {}", self.name),
             given: vec![("map", self.map.text()), ("image", self.image.text())],
             gives: vec![("line", line.trim_end().to_string())],
+            below: vec![],
         }
     }
 }

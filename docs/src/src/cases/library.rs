@@ -1,7 +1,7 @@
 //! Calls of the functions that the library exports, with the numbers that they
 //! give as `include/riptide.h` packs them, and digests of the bytes lent to them.
 
-use super::{admissions, runs, Bytes, Entry, ALL_ONES, FILLER};
+use super::{admissions, pages, runs, Bytes, Entry, ALL_ONES, FILLER};
 use crate::digest::Digest;
 use crate::machine::reset;
 use crate::map::counts;
@@ -70,14 +70,19 @@ fn run_number(answer: RunAnswer) -> u64 {
     }
 }
 
-fn entry(kind: &str, name: &str, given: Vec<(&'static str, String)>, number: u64) -> Entry {
+pub(super) fn entry(
+    kind: &str,
+    name: &str,
+    given: Vec<(&'static str, String)>,
+    number: u64,
+) -> Entry {
     let gives = vec![("number", format!("{number:016x}"))];
-    Entry { name: format!("{kind} {name}"), given, gives }
+    Entry { name: format!("{kind} {name}"), given, gives, below: vec![] }
 }
 
 impl Entry {
     /// The case with the digest of lent bytes among what comes out.
-    fn with_digest(mut self, key: &'static str, bytes: &[u8]) -> Entry {
+    pub(super) fn with_digest(mut self, key: &'static str, bytes: &[u8]) -> Entry {
         self.gives.push((key, Digest::text(bytes)));
         self
     }
@@ -92,7 +97,8 @@ fn all_words() -> Entry {
     let numbers: Vec<u8> = words().flat_map(|(_, word)| read_number(word).to_le_bytes()).collect();
     let gives = vec![("valid", valid.to_string()), ("equal", equal.to_string())];
     let given = vec![("first", "0".to_string()), ("last", u16::MAX.to_string())];
-    Entry { name: "words all".to_string(), given, gives }.with_digest("digest", &numbers)
+    let all = Entry { name: "words all".to_string(), given, gives, below: vec![] };
+    all.with_digest("digest", &numbers)
 }
 
 /// A word of each kind, with fields that differ.
@@ -247,5 +253,6 @@ fn ran() -> Vec<Entry> {
 
 /// All calls.
 pub fn entries() -> Vec<Entry> {
-    [vec![all_words()], decoded(), encoded(), counted(), states(), admitted(), ran()].concat()
+    let calls = [decoded(), encoded(), counted(), states(), admitted(), ran(), pages::entries()];
+    [vec![all_words()], calls.concat()].concat()
 }

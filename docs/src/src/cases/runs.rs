@@ -71,6 +71,7 @@ impl Case {
                 ("state_digest", Digest::text(&outcome.state)),
                 ("trace_digest", Digest::text(&outcome.trace)),
             ],
+            below: vec![],
         }
     }
 }
