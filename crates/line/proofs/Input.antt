@@ -54,6 +54,6 @@ module _ (input : List ℕ) where
   -- the line with its end behind it, from place 0
   pub whole-line : {before out last : List ℕ} {e r : ℕ}
       → Written before 0 (without-end input) out e
-      → Written out e endText last r → take r last ≡ lineOf input
+      → Written out e endText last r → Written before 0 (lineOf input) last r
   unfolding lineOf
-  whole-line v w = behind v w .line
+  whole-line v w = behind v w

@@ -110,7 +110,7 @@ fn put_words(out: &mut [u8], input: &[u8]) -> usize
 // Makes the line of an input, the map and then the image; its length.
 pub fn line(input: &[u8], out: &mut [u8]) -> usize
     requires { ⌜ 64 ≤ length (now out) ⌝ }
-    ensures { λ r. ⌜ (take r (now (out .exit)) ≡ lineOf (now (input .entry))) × (r ≤ length (now (out .exit))) ⌝ }
+    ensures { λ r. ⌜ (take r (now (out .exit)) ≡ lineOf (now (input .entry))) × (r ≤ length (now (out .exit))) × (drop r (now (out .exit)) ≡ drop r (now (out .entry))) ⌝ }
 {
     let e = put_words(out, input);
     text::put(out, e, b"\n")

@@ -9,7 +9,7 @@ use native.Mathlib.Omega.{arith}
 use borrow.Author.Tests.{ltb-true, ltb-false, eq-eqb, ne-eqb}
 use lib.Dec.{ltb}
 use lib.ListN.{length, take, drop, getD, length-append}
-use lib.Seq.{length-take-le, take-all, take-at, take-append-seam, drop-append-add}
+use lib.Seq.{length-take-le, take-all, take-at, take-append-seam, drop-at, drop-append-add}
 use Rattle.machine.specs.Step.{wordCount, wordAt}
 use Rattle.emulator.specs.Run.{imageFits}
 use Rattle.emulator.proofs.Door.{image-words}
@@ -207,11 +207,13 @@ page-long input out h room = length-take-le (lineLength * wordCount input) out (
 
 pub page-printed : (input page rest : List ℕ) → imageFits input ≡ true → page ≡ pageOf input
     → (take (lineLength * wordCount input) (page ++ rest) ≡ printedOf input) × (lineLength * wordCount input ≤ length (page ++ rest))
+    × (drop (lineLength * wordCount input) (page ++ rest) ≡ rest)
 unfolding printedOf
 page-printed input page rest h e =
     let long : length page ≡ lineLength * wordCount input = ap length e ∙ lines-long input (wordCount input) in (
       take-at page rest (lineLength * wordCount input) long ∙ e ∙ rw h,
       omega (arith, long, length-append page rest),
+      drop-at page rest (lineLength * wordCount input) long,
     )
 
 pub printed-refused : (input : List ℕ) → imageFits input ≡ false → doorLine 11 ++ endText ≡ printedOf input

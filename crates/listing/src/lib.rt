@@ -2,7 +2,7 @@
 ghost use mathlib.Core.Path.{_≡_};
 ghost use mathlib.Core.List.{_++_};
 ghost use Prim.Native.Nat.{_+_, _*_, _≤_, _<_};
-ghost use lib.ListN.{length, take};
+ghost use lib.ListN.{length, take, drop};
 ghost use Rattle.word.specs.Word.{isValid};
 ghost use Rattle.machine.specs.Step.{wordCount};
 ghost use Rattle.text.specs.Text.{spaceText, octal};
@@ -100,7 +100,7 @@ pub fn list(image: &[u8], page: &mut [u8]) -> ListAnswer
 // What the program `list` prints for its input; its length.
 pub fn print(input: &[u8], out: &mut [u8]) -> usize
     requires { ⌜ 262144 ≤ length (now out) ⌝ }
-    ensures { λ r. ⌜ (take r (now (out .exit)) ≡ printedOf (now (input .entry))) × (r ≤ length (now (out .exit))) ⌝ }
+    ensures { λ r. ⌜ (take r (now (out .exit)) ≡ printedOf (now (input .entry))) × (r ≤ length (now (out .exit))) × (drop r (now (out .exit)) ≡ drop r (now (out .entry))) ⌝ }
 {
     if !emulator::image_fits(input) {
         let behind = text::put_door(out, 11);

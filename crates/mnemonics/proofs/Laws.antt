@@ -55,6 +55,16 @@ module _ (w : ℕ) where
         unfolding layoutOf
         layout-two t = rw (valid, ne-eqb (opcodeOf w) 7 other, sym b, narrow, t)
 
+-- what holds of the four layouts, and of none, holds of every word's
+layout-each : (P : List Operand → Type 0) (w : ℕ) → P (oneField (bits3to15 w) 5) → P (threeFields (bits3to7 w) (bits8to10 w) (bits11to15 w))
+    → P (oneField (bits8to15 w) 3) → P (twoFields (bits3to7 w) (bits8to15 w)) → P [] → P (layoutOf w)
+unfolding layoutOf
+layout-each P w jmp three low two nothing =
+    pick-both P (isValid w)
+    (pick-both P (eqb (opcodeOf w) 7) jmp
+    (pick-both P (ltb (opcodeOf w) 4 || isBank (bits3to7 w)) three (pick-both P (isCallWord w || isRetWord w) low two)))
+    nothing
+
 -- ---- the width of a layout
 
 -- a layout's text is as wide as the layout
@@ -68,16 +78,9 @@ operands-long (o ∷ p ∷ rest) =
 
 -- every layout fits columns 19-31
 pub layout-fits : (w : ℕ) → layoutWidth (layoutOf w) ≤ 13
-unfolding layoutOf layoutWidth
+unfolding layoutWidth
 layout-fits w =
-    pick-both Narrow (isValid w)
-    (pick-both Narrow (eqb (opcodeOf w) 7) (omega arith)
-    (pick-both Narrow (ltb (opcodeOf w) 4 || isBank (bits3to7 w)) (omega arith)
-    (pick-both Narrow (isCallWord w || isRetWord w) (omega arith) (omega arith))))
-    (omega arith)
-  where
-    Narrow : List Operand → Type 0
-    Narrow layout = layoutWidth layout ≤ 13
+    layout-each (λ (layout : List Operand). layoutWidth layout ≤ 13) w (omega arith) (omega arith) (omega arith) (omega arith) (omega arith)
 
 -- every mnemonic fits columns 14-17
 all-short : List (List ℕ) → Bool
@@ -107,13 +110,9 @@ mnemonic-long w =
 
 -- every operand is below 8 to the number of its digits
 pub layout-shown : (w : ℕ) → Shown (layoutOf w)
-unfolding layoutOf
 layout-shown w =
-    pick-both Shown (isValid w)
-    (pick-both Shown (eqb (opcodeOf w) 7) (also (omega arith) none)
-    (pick-both Shown (ltb (opcodeOf w) 4 || isBank (bits3to7 w)) (also (omega arith) (also (omega arith) (also (omega arith) none)))
-    (pick-both Shown (isCallWord w || isRetWord w) (also (omega arith) none) (also (omega arith) (also (omega arith) none)))))
-    none
+    layout-each Shown w (also (omega arith) none) (also (omega arith) (also (omega arith) (also (omega arith) none)))
+    (also (omega arith) none) (also (omega arith) (also (omega arith) none)) none
 
 -- the operands, filled up
 pub operands-filled : (w : ℕ) → length (filled 13 (operandsText (layoutOf w))) ≡ 13

@@ -5,7 +5,7 @@ ghost use Prim.Native.Nat.{_≤_, _<_};
 ghost use lib.ListN.{getD};
 ghost use Rattle.word.specs.Word.{isValid};
 ghost use Rattle.text.specs.Text.{filled};
-ghost use Rattle.mnemonics.specs.Layout.{opcodeNames, mnemonicOf, threeFields, twoFields, oneField, layoutOf};
+ghost use Rattle.mnemonics.specs.Layout.{opcodeNames, isCallWord, isRetWord, mnemonicOf, threeFields, twoFields, oneField, layoutOf};
 ghost use Rattle.mnemonics.specs.Parts.{operandsIn};
 
 // A layout: each operand's value, and the octal digits that it takes.
@@ -45,6 +45,19 @@ fn one(x: usize, digits: usize) -> Layout
     }
 }
 
+// CALL and RET, among the words of opcode 5.
+fn is_call(w: usize) -> bool
+    ensures { λ r. ⌜ r ≡ isCallWord w ⌝ }
+{
+    (w / 8192 == 5) & (w / 256 % 32 == 7)
+}
+
+fn is_ret(w: usize) -> bool
+    ensures { λ r. ⌜ r ≡ isRetWord w ⌝ }
+{
+    (w / 8192 == 5) & (w / 256 % 32 == 15)
+}
+
 // The operands of a word, none if it is invalid.
 pub fn operands(w: usize, valid: bool) -> Layout
     requires { ⌜ valid ≡ isValid w ⌝ }
@@ -65,7 +78,7 @@ pub fn operands(w: usize, valid: bool) -> Layout
     if (op < 4) | word::is_bank(s) {
         return three(s, w / 32 % 8, w % 32);
     }
-    if ((op == 5) & (s == 7)) | ((op == 5) & (s == 15)) {
+    if is_call(w) | is_ret(w) {
         return one(w % 256, 3);
     }
     two(s, w % 256)
@@ -96,13 +109,11 @@ pub fn mnemonic(w: usize, valid: bool) -> [u8; 4]
     if !valid {
         return *b"????";
     }
-    let op = w / 8192;
-    let s = w / 256 % 32;
-    if (op == 5) & (s == 7) {
+    if is_call(w) {
         return *b"CALL";
     }
-    if (op == 5) & (s == 15) {
+    if is_ret(w) {
         return *b"RET ";
     }
-    opcode_name(op)
+    opcode_name(w / 8192)
 }

@@ -8,7 +8,7 @@ use borrow.Author.Tests.{lt-ltb, le-ltb}
 use borrow.Rule.Slice.PartMut.{putMid, mid-len, same-len-mid}
 use lib.ListN.{length, take, drop, set, length-append, length-set, length-replicate}
 use lib.Pow.{pow-add}
-use lib.Seq.{length-take-le, take-at, take-suc-set}
+use lib.Seq.{length-take-le, take-at, take-suc-set, drop-at, drop-drop, drop-set-lt}
 use Rattle.state.proofs.Laws.{copied}
 use Rattle.text.specs.Text.{decimal, octal, spaces, filled}
 use Rattle.text.specs.Parts.{Written}
@@ -24,11 +24,22 @@ module _ (out : List ℕ) (at : ℕ) (text : List ℕ) (room : at + length text 
   before-length : length (take at out) ≡ at
   before-length = length-take-le at out (omega arith)
 
+  -- all of it: what stood before, the text, what stands beyond
+  whole : putMid at (at + length text - at) out text ≡ (take at out ++ text) ++ drop (at + length text - at) (drop at out)
+  whole = sym (append-assoc (take at out) text (drop (at + length text - at) (drop at out)))
+
+  seam : length (take at out ++ text) ≡ at + length text
+  seam = length-append (take at out) text ∙ ap (λ (n : ℕ). n + length text) before-length
+
   put-line : take (at + length text) (putMid at (at + length text - at) out text) ≡ take at out ++ text
-  put-line =
-      let whole = append-assoc (take at out) text (drop (at + length text - at) (drop at out)) in
-      ap (take (at + length text)) (sym whole)
-      ∙ take-at (take at out ++ text) _ (at + length text) (length-append (take at out) text ∙ ap (λ (n : ℕ). n + length text) before-length)
+  put-line = ap (take (at + length text)) whole ∙ take-at (take at out ++ text) _ (at + length text) seam
+
+  put-beyond : drop (at + length text) (putMid at (at + length text - at) out text) ≡ drop (at + length text) out
+  put-beyond =
+      ap (drop (at + length text)) whole
+      ∙ drop-at (take at out ++ text) _ (at + length text) seam
+      ∙ drop-drop (at + length text - at) at out
+      ∙ ap (λ (n : ℕ). drop n out) {x = at + (at + length text - at)} {y = at + length text} (omega arith)
 
   pub put-here : (last : List ℕ) → last ≡ take (length text) text ++ drop (length text) (take (at + length text - at) (drop at out))
       → Written out at text (putMid at (at + length text - at) out last) (at + length text)
@@ -37,16 +48,22 @@ module _ (out : List ℕ) (at : ℕ) (text : List ℕ) (room : at + length text 
       record {
         line = ap (λ (l : List ℕ). take (at + length text) (putMid at (at + length text - at) out l)) same ∙ put-line;
         place = refl;
+        beyond = ap (λ (l : List ℕ). drop (at + length text) (putMid at (at + length text - at) out l)) same ∙ put-beyond;
         long = same-len-mid at (at + length text - at) out last (ap length same ∙ sym part-length);
       }
 
 -- ---- texts behind each other
 
+-- what is equal from a place on is equal further on
+further : (a b : List ℕ) (i n : ℕ) → drop i a ≡ drop i b → drop (i + n) a ≡ drop (i + n) b
+further a b i n e = sym (drop-drop n i a) ∙ ap (drop n) e ∙ drop-drop n i b
+
 pub behind : {a b c t u : List ℕ} {i j k : ℕ} → Written a i t b j → Written b j u c k → Written a i (t ++ u) c k
-behind {a = a} {t = t} {u = u} {i = i} v w =
+behind {a = a} {b = b} {t = t} {u = u} {i = i} {j = j} v w =
     record {
       line = w .line ∙ ap (λ (l : List ℕ). l ++ u) (v .line) ∙ append-assoc (take i a) t u;
       place = omega (arith, v .place, w .place, length-append t u);
+      beyond = w .beyond ∙ subst (λ (n : ℕ). drop n b ≡ drop n a) (sym (w .place)) (further b a j (length u) (v .beyond));
       long = w .long ∙ v .long;
     }
 
@@ -55,7 +72,7 @@ the-same {a = a} {b = b} {i = i} {j = j} w e = subst (λ (t : List ℕ). Written
 
 -- no text
 pub nothing-written : (before : List ℕ) (at : ℕ) → Written before at [] before at
-nothing-written before at = record { line = sym (append-nil (take at before)); place = omega arith; long = refl }
+nothing-written before at = record { line = sym (append-nil (take at before)); place = omega arith; beyond = refl; long = refl }
 
 -- ---- a text put byte by byte: what is there and what is left make the whole
 
@@ -63,23 +80,25 @@ nothing-written before at = record { line = sym (append-nil (take at before)); p
 pub record Going (before : List ℕ) (at : ℕ) (text : List ℕ) (out : List ℕ) (b : ℕ) (rest : List ℕ) : Type 0 where
   pub line : take b out ++ rest ≡ take at before ++ text
   pub place : b + length rest ≡ at + length text
+  pub beyond : drop b out ≡ drop b before
   pub long : length out ≡ length before
 
 pub nothing-there : (before : List ℕ) (at : ℕ) (text : List ℕ) → Going before at text before at text
-nothing-there before at text = record { line = refl; place = refl; long = refl }
+nothing-there before at text = record { line = refl; place = refl; beyond = refl; long = refl }
 
 pub one-more : {before text out rest : List ℕ} {at b : ℕ} (byte : ℕ) → b < length out → Going before at text out b (byte ∷ rest)
     → Going before at text (set out b byte) (b + 1) rest
-one-more {out = out} {rest = rest} {b = b} byte below g =
+one-more {before = before} {out = out} {rest = rest} {b = b} byte below g =
     record {
       line = rw (add-one b, take-suc-set out b byte, append-assoc) (g .line);
       place = omega (arith, g .place);
+      beyond = drop-set-lt (b + 1) out b byte (omega arith) ∙ further out before b 1 (g .beyond);
       long = length-set out b byte ∙ g .long;
     }
 
 pub all-there : {before text out : List ℕ} {at b : ℕ} → Going before at text out b [] → Written before at text out b
 all-there {out = out} {b = b} g =
-    record { line = sym (append-nil (take b out)) ∙ g .line; place = omega (arith, g .place); long = g .long }
+    record { line = sym (append-nil (take b out)) ∙ g .line; place = omega (arith, g .place); beyond = g .beyond; long = g .long }
 
 -- a byte that is what the rest begins with
 pub goes-on : {before text out rest next : List ℕ} {at b byte : ℕ} → b < length out → Going before at text out b rest → rest ≡ byte ∷ next

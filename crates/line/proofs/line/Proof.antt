@@ -10,7 +10,9 @@ returns : tie.Need-returns
 returns c =
     let v = c .before .before .before .before .before .before .before .put-words .ensures in
     let w = c .before .before .put .ensures in
-    (whole-line (now (c .before .before .before .before .before .before .before .before .before .before .before .args .input)) (v .0) w, omega (arith, c .before .before .before .before .before .before .before .before .before .before .before .pre, v .1, v .0 .long, w .place, w .long))
+    let start = c .before .before .before .before .before .before .before .before .before .before .before in
+    let whole = whole-line (now (start .args .input)) (v .0) w in
+    (whole .line, omega (arith, start .pre, v .1, whole .long, w .place), whole .beyond)
 
 pub line-spec : {M : Type 1} → statement M
 line-spec =

@@ -24,12 +24,12 @@ mul-if2 c =
 returns-2 : tie.Need-returns-2
 returns-2 c =
     let a = c .before .before .before .before .before .args in
-    refused-41 (now (a .image)) (now (a .page)) (sym (c .before .before .image-fits .ensures) ∙ not-false _ (c .before .if1 .left)) (c .if2 .taken)
+    refused-41 (now (a .image)) (now (a .page)) (sym (c .before .before .image-fits .ensures) ∙ not-false _ (c .before .if1 .left)) (λ e. omega (arith, e, c .if2 .taken))
 
 returns-3 : tie.Need-returns-3
 returns-3 c =
     let a = c .before .before .before .before .before .before .before .before .before .args in
-    let-in (now (a .image)) (now (a .page)) (sym (c .before .before .before .before .before .before .image-fits .ensures) ∙ not-false _ (c .before .before .before .before .before .if1 .left)) (c .before .before .before .before .if2 .left) (c .before .before .lines .ensures)
+    let-in (now (a .image)) (now (a .page)) (sym (c .before .before .before .before .before .before .image-fits .ensures) ∙ not-false _ (c .before .before .before .before .before .if1 .left)) (omega (arith, c .before .before .before .before .if2 .left)) (c .before .before .lines .ensures)
 
 pub list-spec : {M : Type 1} → statement M
 list-spec =

@@ -14,9 +14,11 @@ returns : tie.Need-returns
 returns c =
     let start = c .before .before .before .before .before .before .before .before .before .before .before .before .before in
     let told = c .before .before .before .before .before .before .before .put-door .ensures in
-    let ended = c .before .before .put .ensures in (
-      behind (told .0) ended .line ∙ printed-refused (now (start .args .input)) (sym (c .before .before .before .before .before .before .before .before .before .before .image-fits .ensures) ∙ not-true _ (c .before .before .before .before .before .before .before .before .before .if1 .taken)),
-      omega (arith, start .pre, told .1, told .0 .long, ended .place, ended .long),
+    let ended = c .before .before .put .ensures in
+    let whole = behind (told .0) ended in (
+      whole .line ∙ printed-refused (now (start .args .input)) (sym (c .before .before .before .before .before .before .before .before .before .before .image-fits .ensures) ∙ not-true _ (c .before .before .before .before .before .before .before .before .before .if1 .taken)),
+      omega (arith, start .pre, told .1, ended .place, whole .long),
+      whole .beyond,
     )
 
 mul-size : tie.Need-mul-size

@@ -25,7 +25,7 @@ put-number-requires : tie.Need-put-number-requires Inv-loop μ-loop
 put-number-requires c κs =
     let turn = c .before .before .before .before .loop in
     let start = c .before .before .before .before .before .before in
-    let next = next-fits (start .args .t3) (turn .k) (start .args .t3 .count) (c .before .before .before .loop-test .taken) in
+    let next = next-fits (start .args .t3) (turn .k) (start .args .t3 .count) (omega (arith, c .before .before .before .loop-test .taken)) in
     (omega (arith, next, turn .inv .0 .place, turn .inv .0 .long, start .pre .1), omega (arith, next, start .pre .2))
 
 loop-again : tie.Need-loop-again Inv-loop μ-loop
