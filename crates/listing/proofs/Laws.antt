@@ -121,11 +121,11 @@ pub line-columns : (address w : ℕ) {a b c d e f : List ℕ} {h i j k l m : ℕ
 unfolding pageLine wordText
 line-columns address w u v x y z =
     the-same (behind (behind (behind (behind u v) x) y) z)
-    (joined (octal 5 address) spaceText (octal 6 w) spaceText (filled 4 (mnemonicOf w)) spaceText (filled 13 (operandsText (layoutOf w))) endText)
+    (regrouped (octal 5 address) spaceText (octal 6 w) spaceText (filled 4 (mnemonicOf w)) spaceText (filled 13 (operandsText (layoutOf w))) endText)
   where
-    joined : (o s p t q u r v : List ℕ)
+    regrouped : (o s p t q u r v : List ℕ)
         → ((((o ++ (s ++ p)) ++ t) ++ (q ++ (u ++ r))) ++ v) ≡ o ++ (s ++ (p ++ (t ++ (q ++ (u ++ (r ++ v))))))
-    joined o s p t q u r v = simp append-assoc
+    regrouped o s p t q u r v = simp append-assoc
 
 -- where the text k begins among texts one behind another
 unfoldable pub placeOf : List (List ℕ) → ℕ → ℕ
