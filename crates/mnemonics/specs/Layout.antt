@@ -26,12 +26,16 @@ retText = 82 ∷ 69 ∷ 84 ∷ []
 abbrev pub invalidText : List ℕ
 invalidText = 63 ∷ 63 ∷ 63 ∷ 63 ∷ []
 
--- "S = 07 is CALL", "S = 17 is RET" ("The word" of document 01): words of opcode 5
+-- a word of opcode 5 with this S
+abbrev pub isNztOf : ℕ → ℕ → Bool
+isNztOf s w = eqb (opcodeOf w) 5 && eqb (bits3to7 w) s
+
+-- "S = 07 is CALL", "S = 17 is RET" ("The word" of document 01)
 abbrev pub isCallWord : ℕ → Bool
-isCallWord w = eqb (opcodeOf w) 5 && eqb (bits3to7 w) 7
+isCallWord w = isNztOf 7 w
 
 abbrev pub isRetWord : ℕ → Bool
-isRetWord w = eqb (opcodeOf w) 5 && eqb (bits3to7 w) 15
+isRetWord w = isNztOf 15 w
 
 -- the mnemonic of a valid word
 abbrev pub nameOf : ℕ → List ℕ

@@ -5,7 +5,7 @@ ghost use Prim.Native.Nat.{_≤_, _<_};
 ghost use lib.ListN.{getD};
 ghost use Rattle.word.specs.Word.{isValid};
 ghost use Rattle.text.specs.Text.{filled};
-ghost use Rattle.mnemonics.specs.Layout.{opcodeNames, isCallWord, isRetWord, mnemonicOf, threeFields, twoFields, oneField, layoutOf};
+ghost use Rattle.mnemonics.specs.Layout.{opcodeNames, isNztOf, mnemonicOf, layoutOf};
 ghost use Rattle.mnemonics.specs.Parts.{operandsIn};
 
 // A layout: each operand's value, and the octal digits that it takes.
@@ -15,47 +15,26 @@ pub struct Layout {
     pub digits: [usize; 3],
 }
 
-fn three(s: usize, l: usize, x: usize) -> Layout
-    ensures { λ r. ⌜ (operandsIn r ≡ threeFields s l x) × (r .count ≤ 3) ⌝ }
+fn laid_out(count: usize, values: [usize; 3], digits: [usize; 3]) -> Layout
+    ensures { λ r. ⌜ r ≡ record { count = count; values = values; digits = digits } ⌝ }
 {
     Layout {
-        count: 3,
-        values: [s, l, x],
-        digits: [2, 1, 2],
+        count: count,
+        values: values,
+        digits: digits,
     }
 }
 
-fn two(s: usize, i: usize) -> Layout
-    ensures { λ r. ⌜ (operandsIn r ≡ twoFields s i) × (r .count ≤ 3) ⌝ }
-{
-    Layout {
-        count: 2,
-        values: [s, i, 0],
-        digits: [2, 3, 0],
-    }
-}
+// S of CALL and of RET.
+const CALL: usize = 7;
 
-fn one(x: usize, digits: usize) -> Layout
-    ensures { λ r. ⌜ (operandsIn r ≡ oneField x digits) × (r .count ≤ 3) ⌝ }
-{
-    Layout {
-        count: 1,
-        values: [x, 0, 0],
-        digits: [digits, 0, 0],
-    }
-}
+const RET: usize = 15;
 
-// CALL and RET, among the words of opcode 5.
-fn is_call(w: usize) -> bool
-    ensures { λ r. ⌜ r ≡ isCallWord w ⌝ }
+// Whether a word has opcode 5 and this S.
+fn is_nzt_of(w: usize, s: usize) -> bool
+    ensures { λ r. ⌜ r ≡ isNztOf s w ⌝ }
 {
-    (w / 8192 == 5) & (w / 256 % 32 == 7)
-}
-
-fn is_ret(w: usize) -> bool
-    ensures { λ r. ⌜ r ≡ isRetWord w ⌝ }
-{
-    (w / 8192 == 5) & (w / 256 % 32 == 15)
+    (w / 8192 == 5) & (w / 256 % 32 == s)
 }
 
 // The operands of a word, none if it is invalid.
@@ -64,24 +43,20 @@ pub fn operands(w: usize, valid: bool) -> Layout
     ensures { λ r. ⌜ (operandsIn r ≡ layoutOf w) × (r .count ≤ 3) ⌝ }
 {
     if !valid {
-        return Layout {
-            count: 0,
-            values: [0; 3],
-            digits: [0; 3],
-        };
+        return laid_out(0, [0; 3], [0; 3]);
     }
     let op = w / 8192;
     let s = w / 256 % 32;
     if op == 7 {
-        return one(w % 8192, 5);
+        return laid_out(1, [w % 8192, 0, 0], [5, 0, 0]);
     }
     if (op < 4) | word::is_bank(s) {
-        return three(s, w / 32 % 8, w % 32);
+        return laid_out(3, [s, w / 32 % 8, w % 32], [2, 1, 2]);
     }
-    if is_call(w) | is_ret(w) {
-        return one(w % 256, 3);
+    if is_nzt_of(w, CALL) | is_nzt_of(w, RET) {
+        return laid_out(1, [w % 256, 0, 0], [3, 0, 0]);
     }
-    two(s, w % 256)
+    laid_out(2, [s, w % 256, 0], [2, 3, 0])
 }
 
 // The mnemonic of an opcode.
@@ -109,10 +84,10 @@ pub fn mnemonic(w: usize, valid: bool) -> [u8; 4]
     if !valid {
         return *b"????";
     }
-    if is_call(w) {
+    if is_nzt_of(w, CALL) {
         return *b"CALL";
     }
-    if is_ret(w) {
+    if is_nzt_of(w, RET) {
         return *b"RET ";
     }
     opcode_name(w / 8192)

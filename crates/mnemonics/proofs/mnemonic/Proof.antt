@@ -15,18 +15,18 @@ returns c =
 returns-2 : tie.Need-returns-2
 returns-2 c =
     let start = c .before .before .before .before .before in
-    ap (filled 4) (name-call (start .args .w) (sym (start .pre .1) ∙ not-false _ (c .before .before .before .before .if1 .left)) (sym (c .before .before .before .is-call .ensures) ∙ c .before .before .if2 .taken))
+    ap (filled 4) (name-call (start .args .w) (sym (start .pre .1) ∙ not-false _ (c .before .before .before .before .if1 .left)) (sym (c .before .before .before .is-nzt-of .ensures) ∙ c .before .before .if2 .taken))
 
 returns-3 : tie.Need-returns-3
 returns-3 c =
     let start = c .before .before .before .before .before .before .before in
-    ap (filled 4) (name-ret (start .args .w) (sym (start .pre .1) ∙ not-false _ (c .before .before .before .before .before .before .if1 .left)) (sym (c .before .before .before .before .before .is-call .ensures) ∙ c .before .before .before .before .if2 .left) (sym (c .before .before .before .is-ret .ensures) ∙ c .before .before .if3 .taken))
+    ap (filled 4) (name-ret (start .args .w) (sym (start .pre .1) ∙ not-false _ (c .before .before .before .before .before .before .if1 .left)) (sym (c .before .before .before .before .before .is-nzt-of .ensures) ∙ c .before .before .before .before .if2 .left) (sym (c .before .before .before .is-nzt-of2 .ensures) ∙ c .before .before .if3 .taken))
 
 returns-4 : tie.Need-returns-4
 returns-4 c =
     let start = c .before .before .before .before .before .before in
     c .opcode-name .ensures
-    ∙ ap (filled 4) (name-other (start .args .w) (sym (start .pre .1) ∙ not-false _ (c .before .before .before .before .before .if1 .left)) (sym (c .before .before .before .before .is-call .ensures) ∙ c .before .before .before .if2 .left) (sym (c .before .before .is-ret .ensures) ∙ c .before .if3 .left))
+    ∙ ap (filled 4) (name-other (start .args .w) (sym (start .pre .1) ∙ not-false _ (c .before .before .before .before .before .if1 .left)) (sym (c .before .before .before .before .is-nzt-of .ensures) ∙ c .before .before .before .if2 .left) (sym (c .before .before .is-nzt-of2 .ensures) ∙ c .before .if3 .left))
 
 pub mnemonic-spec : {M : Type 1} → statement M
 mnemonic-spec =
