@@ -14,7 +14,7 @@ use Rattle.emulator.specs.Run.{imageFits}
 use Rattle.emulator.proofs.Door.{image-some}
 use Rattle.facts.specs.Record.{recordSize, depths, recordOf, cellAt, FineCell, Layout}
 use Rattle.facts.proofs.Records.{part, part-at, same-table}
-use Rattle.transfer.specs.Passes.{tableLength, leastTable}
+use Rattle.transfer.specs.Passes.{tableLength, leastTable, sweepsOf}
 use Rattle.transfer.specs.Findings.{findingAt, NoFinding}
 use Rattle.transfer.proofs.TableLaws.{least-table}
 use Rattle.admission.specs.declared.AdmitAnswer.{AdmitAnswer}
@@ -74,17 +74,17 @@ module _ (image map : List ℕ) (bytes : (k : ℕ) → getD image k 0 < 256) (so
 
 -- ---- admitted exactly where the door questions get yes and no cell of the least table has a finding
 
-pub cleared-admitted : (image map table : List ℕ) → Cleared image map table → admitResult image map table ≡ resulting Admitted (filledTable image map)
+pub cleared-admitted : (image map table : List ℕ) → Cleared image map table → admitResult image map table ≡ resulting Admitted (sweepsOf image) (filledTable image map)
 cleared-admitted image map table c =
     let-in image map table (c .fits) (c .long) (c .room)
-    ∙ ap (λ (a : AdmitAnswer). resulting a (filledTable image map)) (clear-admitted image map (leastTable image) (c .clear))
+    ∙ ap (λ (a : AdmitAnswer). resulting a (sweepsOf image) (filledTable image map)) (clear-admitted image map (leastTable image) (c .clear))
 
 pub admitted-cleared : (image map table : List ℕ) → admitResult image map table .answer ≡ Admitted → Cleared image map table
 unfolding admitResult
 admitted-cleared image map table h = go (imageFits image) refl (eqb (length map) mapLength) refl (eqb (length table) (tableLength image)) refl h
   where
     go : (a : Bool) → imageFits image ≡ a → (b : Bool) → eqb (length map) mapLength ≡ b → (c : Bool) → eqb (length table) (tableLength image) ≡ c
-        → pick a (pick b (pick c (resulting (verdictOf image map (leastTable image)) (filledTable image map)) (resulting (Refused 13) table)) (resulting (Refused 12) table)) (resulting (Refused 11) table) .answer ≡ Admitted
+        → pick a (pick b (pick c (resulting (verdictOf image map (leastTable image)) (sweepsOf image) (filledTable image map)) (resulting (Refused 13) 0 table)) (resulting (Refused 12) 0 table)) (resulting (Refused 11) 0 table) .answer ≡ Admitted
         → Cleared image map table
     go false ea b eb c ec e = absurd (let z : _≡_ {A = ℕ} 0 1 = cc in omega arith)
     go true ea false eb c ec e = absurd (let z : _≡_ {A = ℕ} 0 1 = cc in omega arith)

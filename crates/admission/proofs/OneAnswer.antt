@@ -108,4 +108,4 @@ same-answer image map table other e = answer-by table ∙ ap by e ∙ sym (answe
     answer-by : (lent : List ℕ) → admitResult image map lent .answer ≡ by (length lent)
     answer-by lent =
         asked-beside (λ (r : AdmitResult) (a : AdmitAnswer). r .answer ≡ a) (admitQuestions image map lent)
-        {refuse = λ (n : ℕ). resulting (Refused n) lent} {deny = Refused} refl (λ n. refl)
+        {refuse = λ (n : ℕ). resulting (Refused n) 0 lent} {deny = Refused} refl (λ n. refl)

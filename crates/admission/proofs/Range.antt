@@ -1,5 +1,4 @@
 -- The numbers of an answer: a refusal 11 to 13; a finding 21 to 29, a depth below 9, an address inside the image.
-use mathlib.Core.Path.{_≡_, subst}
 use mathlib.Core.List.{List}
 use mathlib.Core.Logic.{⊎-elim}
 use Prim.Native.Nat.{ℕ, _≤_, _<_}
@@ -60,8 +59,3 @@ answer-ranged image map table =
   where
     R : AdmitResult → Type 0
     R r = Ranged (r .answer)
-
-pub found-small : (image map table : List ℕ) {number depth address : ℕ} → admitResult image map table .answer ≡ Found number depth address
-    → (number < 256) × (depth < 256) × (address < 8192)
-found-small image map table e =
-    let r = subst Ranged e (answer-ranged image map table) in (omega (arith, r .1), omega (arith, r .2), r .3)

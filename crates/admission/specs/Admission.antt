@@ -10,7 +10,7 @@ use Rattle.map.specs.Map.{mapLength}
 use Rattle.machine.specs.Step.{wordCount}
 use Rattle.emulator.specs.Run.{imageFits}
 use Rattle.facts.specs.Record.{depths, recordOf, cellAt, putRecord}
-use Rattle.transfer.specs.Passes.{tableLength, leastTable}
+use Rattle.transfer.specs.Passes.{tableLength, leastTable, sweepsOf}
 use Rattle.transfer.specs.Findings.{findingAt, firstFinding, NoFinding}
 use Rattle.admission.specs.declared.AdmitAnswer.{AdmitAnswer}
 use Rattle.admission.specs.declared.AdmitAnswer.the-variants.{Refused, Admitted, Found}
@@ -45,20 +45,22 @@ verdictNumbers (Refused number) = number ∷ []
 verdictNumbers Admitted = 0 ∷ []
 verdictNumbers (Found number depth address) = number ∷ depth ∷ address ∷ []
 
--- What admission yields: its answer, the same in the paper's numbers, and the table's bytes afterwards.
+-- What admission yields: its answer, the same in the paper's numbers, beside it the count of sweeps that changed the table
+-- (request 2026-07 of document 02), and the table's bytes afterwards.
 pub record AdmitResult : Type 0 where
   pub answer : AdmitAnswer
   pub numbers : List ℕ
+  pub sweeps : ℕ
   pub table : List ℕ
 
-abbrev pub resulting : AdmitAnswer → List ℕ → AdmitResult
-resulting answer table = record { answer = answer; numbers = verdictNumbers answer; table = table }
+abbrev pub resulting : AdmitAnswer → ℕ → List ℕ → AdmitResult
+resulting answer sweeps table = record { answer = answer; numbers = verdictNumbers answer; sweeps = sweeps; table = table }
 
--- The admission of an image under a map, into a table. "A no changes no lent byte."
+-- The admission of an image under a map, into a table. "A no changes no lent byte"; "a door refusal has count 0".
 unfoldable pub admitResult : List ℕ → List ℕ → List ℕ → AdmitResult
 admitResult image map table =
-    asked (admitQuestions image map table) (resulting (verdictOf image map (leastTable image)) (filledTable image map))
-    (λ number. resulting (Refused number) table)
+    asked (admitQuestions image map table) (resulting (verdictOf image map (leastTable image)) (sweepsOf image) (filledTable image map))
+    (λ number. resulting (Refused number) 0 table)
 
 -- "a program is admitted exactly when the least table of facts shows no finding": what admission asks of an image, a map
 -- and a table

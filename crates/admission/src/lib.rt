@@ -1,15 +1,16 @@
 // Admission: a program is read before it runs. Fills the lent table of facts and answers.
 ghost use mathlib.Core.Path.{_≡_};
-ghost use Prim.Native.Nat.{_*_, _<_};
+ghost use Prim.Native.Nat.{_*_, _≤_, _<_};
 ghost use lib.Dec.{eqb};
 ghost use lib.ListN.{length};
 ghost use Rattle.choice.specs.Choice.{pick};
 ghost use Rattle.map.specs.Map.{mapLength};
 ghost use Rattle.machine.specs.Step.{wordCount};
 ghost use Rattle.facts.specs.Record.{depths, recordOf, cellAt, putRecord};
-ghost use Rattle.transfer.specs.Passes.{pointAt};
+ghost use Rattle.transfer.specs.Passes.{pointAt, sweepBound};
 ghost use Rattle.transfer.specs.Findings.{findingAt};
 ghost use Rattle.callers.specs.Callers.{Held};
+ghost use Rattle.admission.specs.declared.AdmitAnswer.the-variants.{Refused};
 ghost use Rattle.admission.specs.Admission.{withFindings, verdictOf, resulting, admitResult};
 
 // What admission answers: a refusal at the door; admitted; or the finding of lowest depth, and among those the one of lowest
@@ -24,6 +25,12 @@ pub enum AdmitAnswer {
         depth: usize,
         address: usize,
     },
+}
+
+// The answer, and beside it the count of sweeps that changed the table.
+pub struct Answered {
+    pub answer: AdmitAnswer,
+    pub sweeps: usize,
 }
 
 fn wide(x: u8) -> usize
@@ -98,20 +105,31 @@ fn mark(image: &[u8], map: &[u8], table: &mut [u8]) -> AdmitAnswer
     }
 }
 
+// A refusal at the door: no sweep was made.
+fn refused(number: usize) -> Answered
+    ensures { λ r. ⌜ r ≡ record { answer = Refused number; sweeps = 0 } ⌝ }
+{
+    Answered {
+        answer: AdmitAnswer::Refused { number },
+        sweeps: 0,
+    }
+}
+
 // Reads an image under a map, and fills the table of facts, whatever it held. Answers admitted, or the lowest finding, which
-// Lowest.antt tells; or a refusal, 11, 12 or 13, and then no byte changes.
-pub fn admit(image: &[u8], map: &[u8], table: &mut [u8]) -> AdmitAnswer
-    ensures { λ r. ⌜ resulting r (now (table .exit)) ≡ admitResult (now (image .entry)) (now (map .entry)) (now (table .entry)) ⌝ }
+// Lowest.antt tells, and counts the sweeps; or a refusal, 11, 12 or 13, and then no byte changes and the count is 0.
+pub fn admit(image: &[u8], map: &[u8], table: &mut [u8]) -> Answered
+    ensures { λ r. ⌜ (resulting (r .answer) (r .sweeps) (now (table .exit)) ≡ admitResult (now (image .entry)) (now (map .entry)) (now (table .entry))) × (r .sweeps ≤ sweepBound (now (image .entry))) ⌝ }
 {
     if !emulator::image_fits(image) {
-        return AdmitAnswer::Refused { number: 11 };
+        return refused(11);
     }
     if map.len() != map::LENGTH {
-        return AdmitAnswer::Refused { number: 12 };
+        return refused(12);
     }
     if table.len() != image.len() / 2 * facts::WORD_RECORDS {
-        return AdmitAnswer::Refused { number: 13 };
+        return refused(13);
     }
-    sweeps::fill(image, table);
-    mark(image, map, table)
+    let sweeps = filling::fill(image, table);
+    let answer = mark(image, map, table);
+    Answered { answer, sweeps }
 }

@@ -1,5 +1,5 @@
 // Admits each line of standard input, the inputs of an admission as docs/src/expect/admissions.txt has them, and prints a
-// line with the answer and the digest of the table.
+// line with the answer, the count of sweeps and the digest of the table.
 ghost use Prim.Native.Nat.{_≤_};
 ghost use lib.ListN.{length};
 use admission::AdmitAnswer;
@@ -34,7 +34,11 @@ fn print_answer(a: AdmitAnswer) {
 // Admits, and prints what admission gives. The lent table is a5 throughout before.
 fn report(image: &[u8], map: &[u8], table: &mut [u8]) {
     digest::repeat(165, 165, table);
-    print_answer(admission::admit(image, map, table));
+    let answered = admission::admit(image, map, table);
+    let answer = answered.answer;
+    print_answer(answer);
+    io::write_all(1, b" sweeps=");
+    io::print_decimal(1, answered.sweeps as u64);
     io::write_all(1, b" table_digest=");
     io::print_hex(1, digest::add(digest::none(), table), 16);
     io::write_all(1, b"\n");

@@ -170,6 +170,14 @@ fn admit(s: &[u8], at: usize)
     );
 }
 
+fn foretell(s: &[u8], at: usize)
+    requires { ⌜ at ≤ length (now s) ⌝ }
+{
+    let mut image = io::large_buffer();
+    let n = cases::expand(s, at, &mut image);
+    print_number(riptide::riptide_foretell(&image[..n]));
+}
+
 // The lent trace is a5 throughout before.
 fn run_over(image: &[u8], map: &[u8], state: &mut [u8], recording: &[u8], trace: &mut [u8]) {
     digest::repeat(165, 165, trace);
@@ -303,6 +311,7 @@ fn call(kind: u8, s: &[u8], at: usize)
         b'c' => count(s, at),
         b's' => state(s, at),
         b'a' => admit(s, at),
+        b'f' => foretell(s, at),
         b'l' => list(s, at),
         b'b' => block(s, at),
         b't' => tail(s, at),

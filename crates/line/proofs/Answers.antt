@@ -33,8 +33,8 @@ answered image map table words long room =
     rw (words, eq-eqb (length map) mapLength long, eq-eqb (length table) (tableLength image) room)
 
 -- the answer of a call with the part of the buffer that the image needs
-pub verdict : (image map : List ℕ) {room : ℕ} {last : List ℕ} {r : AdmitAnswer} → LetIn room map image → (buffer : List ℕ) → 57600 ≡ length buffer
-    → resulting r last ≡ admitResult image map (take (length image / 2 * 144) buffer) → r ≡ verdictOf image map (leastTable image)
+pub verdict : (image map : List ℕ) {room sweeps : ℕ} {last : List ℕ} {r : AdmitAnswer} → LetIn room map image → (buffer : List ℕ) → 57600 ≡ length buffer
+    → resulting r sweeps last ≡ admitResult image map (take (length image / 2 * 144) buffer) → r ≡ verdictOf image map (leastTable image)
 verdict image map pre buffer full e =
     let part = take (length image / 2 * 144) buffer in
     let long = part-long buffer (length image / 2 * 144) (omega (arith, pre .3)) in

@@ -73,7 +73,9 @@ fn put_answer(out: &mut [u8], map: &[u8], image: &[u8]) -> usize
     let words = image.len() / 2;
     let size = words * facts::WORD_RECORDS;
     let mut table = table_buffer();
-    match admission::admit(image, map, &mut table[..size]) {
+    let answered = admission::admit(image, map, &mut table[..size]);
+    let answer = answered.answer;
+    match answer {
         AdmitAnswer::Refused { number } => {
             return text::put_door(out, number);
         }

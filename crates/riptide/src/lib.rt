@@ -1,6 +1,5 @@
 // The calls for C and Rust: numbers and byte slices only, one number for each answer.
 ghost use mathlib.Core.Path.{_≡_};
-ghost use Prim.Native.Nat.{_<_, _≤_};
 ghost use Rattle.word.specs.Word.{decoded, encoded};
 ghost use Rattle.map.specs.Map.{counted};
 ghost use Rattle.state.specs.State.{resetNumberOf, resetState};
@@ -8,11 +7,9 @@ ghost use Rattle.emulator.specs.Run.{runResult};
 ghost use Rattle.admission.specs.Admission.{admitResult};
 ghost use Rattle.listing.specs.Listing.{listResult};
 ghost use Rattle.numbers.specs.Words.{readNumber, wordFrom, writeNumber};
-ghost use Rattle.riptide.specs.Numbers.{setsNumber, countNumber, foundNumber, admitNumber, runNumber};
-use admission::AdmitAnswer;
-use emulator::RunAnswer;
+ghost use Rattle.answers.specs.Numbers.{countNumber, runNumber};
+ghost use Rattle.answers.specs.Calls.{admitGives, foretellGives};
 use listing::ListAnswer;
-use map::Counts;
 use state::ResetAnswer;
 use word::Encoding;
 
@@ -39,32 +36,12 @@ pub extern "C" fn riptide_write_word(op: usize, a: usize, b: usize, c: usize) ->
     }
 }
 
-// Four counts, each at its place of a number.
-fn sets(a: usize, b: usize, c: usize, d: usize) -> u64
-    requires { ⌜ (a ≤ 256) × (b ≤ 256) × (c ≤ 256) × (d ≤ 256) ⌝ }
-    ensures { λ r. ⌜ r ≡ setsNumber a b c d ⌝ }
-{
-    a as u64 * 256 + b as u64 * 1048576 + c as u64 * 4294967296 + d as u64 * 17592186044416
-}
-
 // The counts of the four sets at bits 8, 20, 32 and 44; or 12.
 #[no_mangle]
 pub extern "C" fn riptide_count_sets(map: &[u8]) -> u64
     ensures { λ r. ⌜ r ≡ countNumber (counted (now (map .entry))) ⌝ }
 {
-    match map::count(map) {
-        Counts::Sets {
-            left_readable,
-            left_writable,
-            right_readable,
-            right_writable,
-        } => {
-            return sets(left_readable, left_writable, right_readable, right_writable);
-        }
-        Counts::Refused => {
-            return 12;
-        }
-    }
+    answers::count_number(map::count(map))
 }
 
 // 0 and 36 zero bytes; or 14, and the bytes as they were.
@@ -82,34 +59,21 @@ pub extern "C" fn riptide_reset(state: &mut [u8]) -> u64
     }
 }
 
-// The finding, its depth and its address, each at its place of a number.
-fn found(number: usize, depth: usize, address: usize) -> u64
-    requires { ⌜ (number < 256) × (depth < 256) × (address < 8192) ⌝ }
-    ensures { λ r. ⌜ r ≡ foundNumber number depth address ⌝ }
-{
-    number as u64 + depth as u64 * 256 + address as u64 * 65536
-}
-
-// number + depth × 256 + address × 65,536: 0 for admitted, the refusal 11, 12 or 13, or the finding.
+// number + depth × 256 + address × 65,536: 0 for admitted, the refusal 11, 12 or 13, or the finding; and the count of sweeps
+// × 2^32.
 #[no_mangle]
 pub extern "C" fn riptide_admit(image: &[u8], map: &[u8], table: &mut [u8]) -> u64
-    ensures { λ r. ⌜ (r ≡ admitNumber (admitResult (now (image .entry)) (now (map .entry)) (now (table .entry)) .answer)) × (now (table .exit) ≡ admitResult (now (image .entry)) (now (map .entry)) (now (table .entry)) .table) ⌝ }
+    ensures { λ r. ⌜ (r ≡ admitGives (now (image .entry)) (now (map .entry)) (now (table .entry))) × (now (table .exit) ≡ admitResult (now (image .entry)) (now (map .entry)) (now (table .entry)) .table) ⌝ }
 {
-    match admission::admit(image, map, table) {
-        AdmitAnswer::Refused { number } => {
-            return number as u64;
-        }
-        AdmitAnswer::Admitted => {
-            return 0;
-        }
-        AdmitAnswer::Found {
-            number,
-            depth,
-            address,
-        } => {
-            return found(number, depth, address);
-        }
-    }
+    answers::admit_number(admission::admit(image, map, table))
+}
+
+// The length of the image's table × 256 and the bound of its sweeps × 2^32; or 11.
+#[no_mangle]
+pub extern "C" fn riptide_foretell(image: &[u8]) -> u64
+    ensures { λ r. ⌜ r ≡ foretellGives (now (image .entry)) ⌝ }
+{
+    answers::foretell_number(foretell::foretell(image))
 }
 
 // count × 256 + number: the stop number or 0, or with count 0 the refusal 11, 12, 14, 15 or 16.
@@ -123,14 +87,7 @@ pub extern "C" fn riptide_run(
 ) -> u64
     ensures { λ r. ⌜ (r ≡ runNumber (runResult (now (image .entry)) (now (map .entry)) (now (state .entry)) (now (recording .entry)) (now (trace .entry)) .answer)) × (now (state .exit) ≡ runResult (now (image .entry)) (now (map .entry)) (now (state .entry)) (now (recording .entry)) (now (trace .entry)) .state) × (now (trace .exit) ≡ runResult (now (image .entry)) (now (map .entry)) (now (state .entry)) (now (recording .entry)) (now (trace .entry)) .trace) ⌝ }
 {
-    match emulator::run(image, map, state, recording, trace) {
-        RunAnswer::Refused { number } => {
-            return number as u64;
-        }
-        RunAnswer::Ended { count, stop } => {
-            return count as u64 % 72057594037927936 * 256 + stop as u64 % 256;
-        }
-    }
+    answers::run_number(emulator::run(image, map, state, recording, trace))
 }
 
 // 0 and the page; or the refusal 11 or 41, and the bytes as they were.

@@ -1,9 +1,7 @@
 pub mod Passing
-pub mod Clearing
 pub mod Lists
 pub mod Going
 pub mod Executing
 pub mod Returning
 pub mod Turning
 pub mod Rounds
-pub mod Filling

@@ -1,20 +1,18 @@
-// The lent table filled by sweeps: what each cell passes on is joined in at its targets, until nothing changes.
+// A sweep over the lent table: what each cell passes on is joined in at its targets.
 ghost use mathlib.Core.Path.{_≡_};
 ghost use mathlib.Core.Bool.{_&&_};
 ghost use mathlib.Core.List.{[], _∷_};
 ghost use Prim.Native.Nat.{_+_, _-_, _*_, _≤_, _<_};
 ghost use lib.Dec.{ltb};
-ghost use lib.ListN.{length, replicate};
 ghost use Rattle.choice.specs.Choice.{pick};
 ghost use Rattle.machine.specs.Shape.{sourceOf, register, go, branch, defer, call};
 ghost use Rattle.machine.specs.Step.{wordCount, shapeAt};
 ghost use Rattle.machine.specs.Parts.{IsPage, shapeOfDelivery};
 ghost use Rattle.processor.specs.Forms.{shapeIs, FormFits};
 ghost use Rattle.flow.specs.Flow.{turn, turnChanges, sweep, sweepChanges};
-ghost use Rattle.facts.specs.Record.{recordSize, depths};
 ghost use Rattle.cells.specs.Cells.{Bounded};
 ghost use Rattle.callers.specs.Callers.{spanIs, InImage};
-ghost use Rattle.transfer.specs.Passes.{pointAt, toward, gives, isCallSite, pageAddress, canBeExecuted, wordsAt, some, isReturn, wordPasses, allPasses, returnPasses, tableSpace, leastTable};
+ghost use Rattle.transfer.specs.Passes.{pointAt, toward, gives, isCallSite, pageAddress, canBeExecuted, wordsAt, some, isReturn, wordPasses, allPasses, returnPasses, tableSpace};
 ghost use Rattle.sweeps.specs.Sweeps.{Laid, Passed};
 use callers::Values;
 use facts::Cell;
@@ -295,8 +293,8 @@ fn turn(image: &[u8], table: &mut [u8], depth: usize, pc: usize) -> bool
     on | back
 }
 
-// The turn of every cell, once, in order.
-fn sweep(image: &[u8], table: &mut [u8]) -> bool
+// The turn of every cell, once, in order. Says whether the table changed.
+pub fn sweep(image: &[u8], table: &mut [u8]) -> bool
     requires { ⌜ Laid (now image) (now table) × (0 < wordCount (now image)) ⌝ }
     ensures { λ r. ⌜ (now (table .exit) ≡ sweep (tableSpace (now (image .entry))) (now (table .entry))) × (r ≡ sweepChanges (tableSpace (now (image .entry))) (now (table .entry))) × Laid (now (image .entry)) (now (table .exit)) ⌝ }
 {
@@ -314,32 +312,4 @@ fn sweep(image: &[u8], table: &mut [u8]) -> bool
         }
     }
     changed
-}
-
-// Makes every byte zero.
-fn clear(table: &mut [u8])
-    ensures { λ _. ⌜ now (table .exit) ≡ replicate (length (now (table .entry))) 0 ⌝ }
-{
-    let mut i = 0;
-    while i < table.len() {
-        table[i] = 0;
-        i += 1;
-    }
-}
-
-// Fills the table, whatever it held: the least table of the image.
-pub fn fill(image: &[u8], table: &mut [u8])
-    requires { ⌜ (0 < wordCount (now image)) × (wordCount (now image) ≤ 8192) × (length (now table) ≡ recordSize * (depths * wordCount (now image))) ⌝ }
-    ensures { λ _. ⌜ now (table .exit) ≡ leastTable (now (image .entry)) ⌝ }
-{
-    clear(table);
-    let reset = Cell {
-        reached: true,
-        facts: [0; 11],
-    };
-    cells::store(table, 0, reset, 0);
-    let mut going = true;
-    while going {
-        going = sweep(image, table);
-    }
 }

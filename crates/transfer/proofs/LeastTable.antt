@@ -10,10 +10,10 @@ use Rattle.flow.specs.Flow.{Below, Closed, Least, Filled, sweep, sweepChanges, 
 use Rattle.flow.proofs.Grows.{sweep-below}
 use Rattle.flow.proofs.Still.{still-closed}
 use Rattle.flow.proofs.Weights.{sweep-falls}
-use Rattle.flow.proofs.Filling.{filled-bound}
-use Rattle.flow.proofs.Fixpoint.{least-unique, filled-least}
+use Rattle.flow.proofs.Filling.{filled-sweeps, filled-table-unique, filled-count-unique, filled-bound}
+use Rattle.flow.proofs.Fixpoint.{least-unique}
 use Rattle.facts.specs.Record.{depths, resetCell, holdsCell, cellAt, Layout}
-use Rattle.transfer.specs.Passes.{tableSpace, startTable}
+use Rattle.transfer.specs.Passes.{tableSpace, startTable, sweepBound, leastTable, sweepsOf}
 use Rattle.transfer.proofs.TableLaws.{table-laws, start-begins, start-weight}
 
 module _ (image : List ℕ) (bytes : (k : ℕ) → getD image k 0 < 256) where
@@ -39,10 +39,15 @@ module _ (image : List ℕ) (bytes : (k : ℕ) → getD image k 0 < 256) where
       → sumWeights (tableSpace image) (sweep (tableSpace image) t) < sumWeights (tableSpace image) t
   sweep-lowers t g h = sweep-falls (table-laws image bytes) t g h
 
-  -- so sweeps from the reset cell, until one changes nothing, end in the least table, after at most 108 × N
-  pub filled-table : (k : ℕ) (t : List ℕ) → 0 < wordCount image → Filled (tableSpace image) (startTable image) k t
-      → (k ≤ 108 * wordCount image) × Least (tableSpace image) Good resetCell t
-  filled-table k t some f = (
-    le-trans (filled-bound (table-laws image bytes) (start-begins image bytes some .good) f) (start-weight image bytes some),
-    filled-least (table-laws image bytes) (start-begins image bytes some) f,
-  )
+  -- the definitions' count and table: so many sweeps from the reset cell each change something, and one more does not
+  pub least-filled : 0 < wordCount image → Filled (tableSpace image) (startTable image) (sweepsOf image) (leastTable image)
+  unfolding leastTable sweepsOf
+  least-filled some = filled-sweeps (table-laws image bytes) (startTable image) (sweepBound image) (start-begins image bytes some .good) (start-weight image bytes some)
+
+  pub count-bound : 0 < wordCount image → sweepsOf image ≤ sweepBound image
+  count-bound some = le-trans (filled-bound (table-laws image bytes) (start-begins image bytes some .good) (least-filled some)) (start-weight image bytes some)
+
+  -- and sweeps until one changes nothing give no other table and no other count
+  pub filled-is-least : {k : ℕ} {t : List ℕ} → 0 < wordCount image → Filled (tableSpace image) (startTable image) k t
+      → (t ≡ leastTable image) × (k ≡ sweepsOf image)
+  filled-is-least some f = (filled-table-unique f (least-filled some), filled-count-unique f (least-filled some))

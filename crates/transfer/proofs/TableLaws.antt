@@ -27,7 +27,7 @@ use Rattle.facts.specs.Record.{recordSize, depths, cellOf, unreached, resetCell
 use Rattle.facts.proofs.Cells.{holds-refl, holds-trans, holds-antisym, join-holds-left, join-holds-right, join-held, join-fine, join-falls, weight-bound, reached-above, known-above}
 use Rattle.facts.proofs.Records.{part, part-at, part-length, stored-cell, other-cell, put-layout, same-table}
 use Rattle.facts.proofs.Makes.{FineFacts, after-fine}
-use Rattle.transfer.specs.Passes.{pointAt, toward, isReturn, isCall, wordsAt, some, wordPasses, allPasses, isCallSite, returnPasses, cellPasses, passesFrom, tableSpace, tableLength, startTable, leastTable}
+use Rattle.transfer.specs.Passes.{pointAt, toward, isReturn, isCall, wordsAt, some, wordPasses, allPasses, isCallSite, returnPasses, cellPasses, passesFrom, tableSpace, tableLength, startTable, sweepBound, leastTable}
 use Rattle.transfer.proofs.Membership.{each-left, each-right, each-picked, each-overDown, each-pick, over-each, down-each}
 use Rattle.machine.proofs.InRange.{ShapeInRange, shape-at-in-range}
 use Rattle.transfer.proofs.Wider.{words-wider, words-fit, some-wider, toward-wider, word-wider, passes-at, passes-from}
@@ -198,11 +198,11 @@ module _ (image : List ℕ) (bytes : (k : ℕ) → getD image k 0 < 256) where
       holds-nothing c e = subst⁻¹ (λ (x : Cell). holdsCell c x ≡ true) e (nothing c)
 
   -- the weight of the start, and with it every number of sweeps that change something, is at most 108 × N
-  pub start-weight : 0 < wordCount image → sumWeights (tableSpace image) (startTable image) ≤ 108 * wordCount image
+  pub start-weight : 0 < wordCount image → sumWeights (tableSpace image) (startTable image) ≤ sweepBound image
   start-weight some =
       let most = sumWeights-bound (tableSpace image) (startTable image) 12 (λ i l. weight-bound (cellAt (startTable image) i) (start-begins some .good .fine i l)) in
       omega arith
 
   pub least-table : 0 < wordCount image → Least (tableSpace image) (Layout (depths * wordCount image)) resetCell (leastTable image)
   unfolding leastTable
-  least-table some = sweeps-least table-laws (108 * wordCount image) (start-begins some) (start-weight some)
+  least-table some = sweeps-least table-laws (sweepBound image) (start-begins some) (start-weight some)

@@ -9,7 +9,7 @@ use Rattle.choice.specs.Choice.{pick}
 use Rattle.state.specs.State.{stackPlaces}
 use Rattle.machine.specs.Shape.{jump, branch, defer, call, return, Shape, act, go, invalid}
 use Rattle.machine.specs.Step.{wordCount, shapeAt, inPage}
-use Rattle.flow.specs.Flow.{Pass, Space, sweeps}
+use Rattle.flow.specs.Flow.{Pass, Space, sweeps, sweepCount}
 use Rattle.facts.specs.declared.Cell.{Cell}
 use Rattle.facts.specs.Facts.{Span, spanOf, mayBeZero, mayBeOther, factsAfter}
 use Rattle.facts.specs.Record.{recordSize, depths, cellOf, resetCell, holdsCell, joinCell, cellWeight, cellAt, putCell}
@@ -148,6 +148,15 @@ tableLength image = depths * recordSize * wordCount image
 abbrev pub startTable : List ℕ → List ℕ
 startTable image = putCell (replicate (tableLength image) 0) 0 resetCell
 
--- the least table, computed: a sweep that changes something lowers a number that starts at most at 108 × N
+-- "at most 108 × N" (request 2026-07 of document 02): a sweep that changes something lowers a number that is no more at
+-- the start
+abbrev pub sweepBound : List ℕ → ℕ
+sweepBound image = 108 * wordCount image
+
+-- the least table, computed by as many sweeps
 unfoldable pub leastTable : List ℕ → List ℕ
-leastTable image = sweeps (tableSpace image) (108 * wordCount image) (startTable image)
+leastTable image = sweeps (tableSpace image) (sweepBound image) (startTable image)
+
+-- "Starting from the reset cell", the sweeps that change the table, counted
+unfoldable pub sweepsOf : List ℕ → ℕ
+sweepsOf image = sweepCount (tableSpace image) (sweepBound image) (startTable image)

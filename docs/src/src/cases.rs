@@ -16,6 +16,7 @@ pub mod library;
 pub mod pages;
 pub mod runs;
 pub mod sums;
+pub mod sweeps;
 pub mod values;
 pub mod words;
 
@@ -123,13 +124,6 @@ impl Entry {
     pub fn output(&self) -> String {
         let line = with_fields(&self.name, &self.gives);
         self.below.iter().fold(line, |lines, below| lines + "\n" + below)
-    }
-
-    /// The case without one of the fields that come out.
-    pub fn without(&self, key: &str) -> Entry {
-        let mut entry = self.clone();
-        entry.gives.retain(|(name, _)| *name != key);
-        entry
     }
 }
 

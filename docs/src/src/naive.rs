@@ -1,6 +1,7 @@
 //! The table once more, by another method: starting from nothing, each round
 //! makes a new table from what all cells of the old one pass on, until a round
 //! gives the table it came from. A finding is the lowest of all complaints.
+//! Sweeps are counted by the tables that they leave.
 //! Works on the bits of raw words and shares no code with the sweeps, so that
 //! agreement says something.
 
@@ -238,26 +239,64 @@ impl Program {
         all.into_iter().min().map_or(0, |complaint| complaint.3)
     }
 
+    /// Adds to the new table what the cell of this index passes on.
+    fn pass_all(&self, new: &mut Cells, index: usize) {
+        let count = self.words.len();
+        let Some(facts) = &self.old[index] else {
+            return;
+        };
+        let (depth, pc) = (index / count, index % count);
+        if self.is_xec(pc) {
+            let marks = self.may_execute(self.words[pc], pc, facts);
+            for at in (0..count).filter(|&a| marks[a]) {
+                self.pass(new, self.words[at], depth, pc, facts);
+            }
+        } else {
+            self.pass(new, self.words[pc], depth, pc, facts);
+        }
+    }
+
     /// The next round's table.
     fn round(&self) -> Cells {
-        let count = self.words.len();
-        let mut new = vec![None; 9 * count];
-        new[0] = Some(([true; 11], [0; 11]));
-        for index in (0..9 * count).rev() {
-            let Some(facts) = &self.old[index] else {
-                continue;
-            };
-            let (depth, pc) = (index / count, index % count);
-            if self.is_xec(pc) {
-                let marks = self.may_execute(self.words[pc], pc, facts);
-                for at in (0..count).filter(|&a| marks[a]) {
-                    self.pass(&mut new, self.words[at], depth, pc, facts);
-                }
-            } else {
-                self.pass(&mut new, self.words[pc], depth, pc, facts);
-            }
+        let mut new = begun(self.words.len());
+        for index in (0..new.len()).rev() {
+            self.pass_all(&mut new, index);
         }
         new
+    }
+
+    /// One sweep: each cell that is reached when its turn comes, in order. What
+    /// it passes on is told from the table as its turn begins.
+    fn sweep(&mut self) {
+        for index in 0..self.old.len() {
+            if self.old[index].is_some() {
+                let mut new = self.old.clone();
+                self.pass_all(&mut new, index);
+                self.old = new;
+            }
+        }
+    }
+}
+
+/// The table in which the reset cell alone is reached.
+fn begun(count: usize) -> Cells {
+    let mut cells = vec![None; 9 * count];
+    cells[0] = Some(([true; 11], [0; 11]));
+    cells
+}
+
+/// How many sweeps, from the reset cell on, leave another table than they
+/// found (2026-07): whole tables are held against each other.
+pub fn sweep_count(words: &[u16]) -> usize {
+    let mut program = Program { words: words.to_vec(), old: begun(words.len()) };
+    let mut count = 0;
+    loop {
+        let before = program.old.clone();
+        program.sweep();
+        if program.old == before {
+            return count;
+        }
+        count += 1;
     }
 }
 

@@ -35,7 +35,6 @@ const SAMPLES: [(&str, &[u8]); 6] = [
 pub fn files() -> Vec<(&'static str, Vec<u8>)> {
     let (runs, admissions) = (runs::entries(), admissions::entries());
     let (bench, library) = (admissions::bench_entries(), library::entries());
-    let unswept: Vec<Entry> = admissions.iter().map(|entry| entry.without("sweeps")).collect();
     let texts = [
         ("docs/src/expect/words.txt", text(words::lines())),
         ("docs/src/expect/runs.txt", expectations(runs::header(), &runs)),
@@ -45,8 +44,8 @@ pub fn files() -> Vec<(&'static str, Vec<u8>)> {
         ("crates/check_values/stdout", text(values::lines())),
         ("crates/check_runs/stdin", inputs(&runs)),
         ("crates/check_runs/stdout", outputs(&runs)),
-        ("crates/check_admissions/stdin", inputs(&unswept)),
-        ("crates/check_admissions/stdout", outputs(&unswept)),
+        ("crates/check_admissions/stdin", inputs(&admissions)),
+        ("crates/check_admissions/stdout", outputs(&admissions)),
         ("crates/check_bench/stdin", inputs(&bench)),
         ("crates/check_bench/stdout", outputs(&bench)),
         ("crates/check_library/stdin", inputs(&library)),

@@ -8,6 +8,8 @@ use crate::word::Word;
 pub const DEPTHS: usize = 9;
 /// The length of one record of the table.
 pub const RECORD_BYTES: usize = 16;
+/// At most so many sweeps change a table, for each word (2026-07).
+pub const WORD_SWEEPS: usize = 108;
 
 /// AUX, R1-R6, R11, OVF, left address, right address: known or unknown.
 pub type Facts = [Option<u8>; 11];
@@ -338,12 +340,24 @@ fn analyse<'a>(image: &'a [u8], map: &'a [u8]) -> Result<(Analysis<'a>, usize), 
     Ok((analysis, sweeps))
 }
 
+/// The length of an image's table.
+fn table_bytes(image: Image) -> usize {
+    DEPTHS * RECORD_BYTES * image.words()
+}
+
+/// The length of an image's table and the bound of its sweeps, without doing
+/// the work (2026-07). Checks 11 alone.
+pub fn foretell(image: &[u8]) -> Result<(usize, usize), u8> {
+    let image = Image::new(image)?;
+    Ok((table_bytes(image), WORD_SWEEPS * image.words()))
+}
+
 /// Fills the table's bytes and says whether the program is admitted. Checks
 /// 11, 12, 13 in this order; a refusal changes nothing and counts 0 sweeps.
 pub fn admit(image: &[u8], map: &[u8], table: &mut [u8]) -> Admission {
     let checked = Image::new(image).and_then(|image| {
         Map::new(map)?;
-        if table.len() == DEPTHS * RECORD_BYTES * image.words() {
+        if table.len() == table_bytes(image) {
             Ok(())
         } else {
             Err(13)

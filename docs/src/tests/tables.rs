@@ -2,10 +2,11 @@
 
 mod common;
 use common::{admit_words, ALL};
+use riptide_reference::cases::sweeps;
 use riptide_reference::digest::Random;
-use riptide_reference::naive::table_bytes;
+use riptide_reference::naive::{sweep_count, table_bytes};
 use riptide_reference::programs::*;
-use riptide_reference::table::{admit, findings, Admission, Verdict};
+use riptide_reference::table::{admit, findings, foretell, Admission, Verdict};
 use riptide_reference::word::Word::*;
 
 fn finding(words: &[u16], map: &[u8]) -> (u8, usize, usize) {
@@ -22,10 +23,14 @@ fn cell(table: &[u8], depth: usize, address: usize) -> &[u8] {
 }
 
 /// Sweeps and rounds give one table, findings included, and the verdict names
-/// the finding of lowest depth, and among those the one of lowest address.
+/// the finding of lowest depth, and among those the one of lowest address. The
+/// count is that of sweeps that leave another table, and what was foretold.
 fn agree(words: &[u16], map: &[u8]) -> Verdict {
     let (answer, table) = admit_words(words, map);
-    assert!(answer.sweeps <= 108 * words.len());
+    let (length, bound) = foretell(&bytes_of(words)).unwrap();
+    assert_eq!((length, bound), (table.len(), 108 * words.len()));
+    assert!(answer.sweeps <= bound);
+    assert_eq!(answer.sweeps, sweep_count(words), "{words:04x?}");
     let expected = match findings(&table).into_iter().min() {
         None => Verdict::Admitted,
         Some((depth, address, number)) => Verdict::Finding { number, depth, address },
@@ -270,6 +275,42 @@ fn sweep_counts_by_hand() {
     // CALL down in one sweep, RET back up in the same, seen by the next.
     assert_eq!(sweeps(&assemble(&[Call { i: 2 }, Jmp { a: 1 }, Ret { i: 0 }])), 1);
     assert_eq!(sweeps(&assemble(&[Call { i: 3 }, Jmp { a: 2 }, Jmp { a: 0 }, Ret { i: 0 }])), 2);
+}
+
+/// The programs of `cases::sweeps`, by the rules that their names tell.
+#[test]
+fn sweep_counts_of_families() {
+    let sweeps = |words: &[u16]| {
+        agree(words, &ALL);
+        admit_words(words, &ALL).0.sweeps
+    };
+    for words in [2, 3, 40, 300] {
+        assert_eq!(sweeps(&sweeps::line(words)), 1);
+    }
+    for words in [3, 4, 17, 60] {
+        assert_eq!(sweeps(&sweeps::backwards(words)), usize::from(words) - 2);
+    }
+    for depth in 1..=8 {
+        assert_eq!(sweeps(&sweeps::calls(depth)), depth);
+    }
+    for pages in 2..=7 {
+        assert_eq!(sweeps(&sweeps::tables(2, pages)), usize::from(pages) - 1);
+    }
+    // Known at 0 and unknown behind it; then unknown at 0, and so behind it. From the last
+    // on: AUX after the first sweep, R1 after the next, and so on to R6.
+    assert_eq!(sweeps(&sweeps::shifts(true)), 2);
+    assert_eq!(sweeps(&sweeps::shifts(false)), 7);
+}
+
+#[test]
+fn foretelling_checks_11_alone() {
+    for (bytes, told) in [(2, (144, 108)), (800, (57_600, 43_200)), (16_384, (1_179_648, 884_736))]
+    {
+        assert_eq!(foretell(&vec![0xff; bytes]), Ok(told));
+    }
+    for bytes in [0, 1, 3, 16_383, 16_385, 16_386] {
+        assert_eq!(foretell(&vec![0xff; bytes]), Err(11));
+    }
 }
 
 #[test]

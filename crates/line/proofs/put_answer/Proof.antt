@@ -19,8 +19,8 @@ put-door-requires c κs =
     let start = admitted .before .before .before .before .before .before in
     let image = now (start .args .image) in
     let map = now (start .args .map) in
-    let e = verdict image map (start .pre) (admitted .before .before .table-buffer .result) (admitted .before .before .table-buffer .ensures) (admitted .admit .ensures) in
-    absurd (never-refused image map e (c .before .before .number .given .1))
+    let e = verdict image map (start .pre) (admitted .before .before .table-buffer .result) (admitted .before .before .table-buffer .ensures) (admitted .admit .ensures .0) in
+    absurd (never-refused image map e (c .before .before .answer .given .1))
 
 returns : tie.Need-returns
 returns c =
@@ -28,8 +28,8 @@ returns c =
     let start = admitted .before .before .before .before .before .before in
     let image = now (start .args .image) in
     let map = now (start .args .map) in
-    let e = verdict image map (start .pre) (admitted .before .before .table-buffer .result) (admitted .before .before .table-buffer .ensures) (admitted .admit .ensures) in
-    absurd (never-refused image map e (c .before .before .before .before .before .number .given .1))
+    let e = verdict image map (start .pre) (admitted .before .before .table-buffer .result) (admitted .before .before .table-buffer .ensures) (admitted .admit .ensures .0) in
+    absurd (never-refused image map e (c .before .before .before .before .before .answer .given .1))
 
 returns-2 : tie.Need-returns-2
 returns-2 c =
@@ -37,7 +37,7 @@ returns-2 c =
     let start = admitted .before .before .before .before .before .before in
     let image = now (start .args .image) in
     let map = now (start .args .map) in
-    let e = verdict image map (start .pre) (admitted .before .before .table-buffer .result) (admitted .before .before .table-buffer .ensures) (admitted .admit .ensures) in
+    let e = verdict image map (start .pre) (admitted .before .before .table-buffer .result) (admitted .before .before .table-buffer .ensures) (admitted .admit .ensures .0) in
     let w = c .before .before .put-admitted .ensures in
     (the-same (w .0 image refl) (the-line image map e (c .before .before .before .before .enum-told .given .1)), w .1)
 
@@ -47,8 +47,8 @@ put-found-requires c κs =
     let start = admitted .before .before .before .before .before .before in
     let image = now (start .args .image) in
     let map = now (start .args .map) in
-    let e = verdict image map (start .pre) (admitted .before .before .table-buffer .result) (admitted .before .before .table-buffer .ensures) (admitted .admit .ensures) in
-    let small = small-found image map e (start .pre .3) (c .before .before .number2 .given .1) in
+    let e = verdict image map (start .pre) (admitted .before .before .table-buffer .result) (admitted .before .before .table-buffer .ensures) (admitted .admit .ensures .0) in
+    let small = small-found image map e (start .pre .3) (c .before .before .answer2 .given .1) in
     (start .pre .0, small .0, small .1, small .2)
 
 returns-3 : tie.Need-returns-3
@@ -57,9 +57,9 @@ returns-3 c =
     let start = admitted .before .before .before .before .before .before in
     let image = now (start .args .image) in
     let map = now (start .args .map) in
-    let e = verdict image map (start .pre) (admitted .before .before .table-buffer .result) (admitted .before .before .table-buffer .ensures) (admitted .admit .ensures) in
+    let e = verdict image map (start .pre) (admitted .before .before .table-buffer .result) (admitted .before .before .table-buffer .ensures) (admitted .admit .ensures .0) in
     let w = c .before .before .put-found .ensures in
-    (the-same (w .0) (the-line image map e (c .before .before .before .before .before .number2 .given .1)), w .1)
+    (the-same (w .0) (the-line image map e (c .before .before .before .before .before .answer2 .given .1)), w .1)
 
 pub put-answer-spec : {M : Type 1} → statement M
 put-answer-spec =

@@ -1,7 +1,7 @@
 //! Admissions with answer, sweep count and digest of the table's bytes, and
 //! lines of the bench program.
 
-use super::{sums, Bytes, Entry, ALL_ONES, FILLER};
+use super::{sums, sweeps, Bytes, Entry, ALL_ONES, FILLER};
 use crate::bench;
 use crate::digest::{Digest, Random};
 use crate::programs::*;
@@ -29,7 +29,7 @@ pub fn verdict_text(verdict: Verdict) -> String {
 }
 
 impl Case {
-    fn new(name: &str, words: &[u16], map: Bytes) -> Case {
+    pub(super) fn new(name: &str, words: &[u16], map: Bytes) -> Case {
         Case::of(name, Bytes::Hex(bytes_of(words)), map)
     }
 
@@ -246,7 +246,7 @@ fn doors() -> Vec<Case> {
 /// All admissions.
 pub fn cases() -> Vec<Case> {
     let refused = [faults(), executed_faults(), lowest()].concat();
-    let others = [return_bytes(), doors(), sums::admission_cases()].concat();
+    let others = [return_bytes(), doors(), sums::admission_cases(), sweeps::cases()].concat();
     [named(), refused, random_cases(), large(), others].concat()
 }
 

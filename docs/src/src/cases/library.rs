@@ -7,7 +7,7 @@ use crate::machine::reset;
 use crate::map::counts;
 use crate::programs::{assemble, map_of};
 use crate::run::RunAnswer;
-use crate::table::{admit, Verdict};
+use crate::table::{admit, foretell, Admission, Verdict};
 use crate::word::{decode, encode, Word, Word::*};
 
 /// Opcode and fields of a word, a field that it does not have being 0.
@@ -51,14 +51,24 @@ fn count_number(map: &[u8]) -> u64 {
     }
 }
 
-/// `riptide_admit`: the number, the depth at bit 8, the address at bit 16.
-fn admit_number(verdict: Verdict) -> u64 {
-    match verdict {
+/// `riptide_admit`: the number, the depth at bit 8, the address at bit 16, the
+/// count of sweeps at bit 32.
+fn admit_number(admission: Admission) -> u64 {
+    let low = match admission.verdict {
         Verdict::Refused(number) => number.into(),
         Verdict::Admitted => 0,
         Verdict::Finding { number, depth, address } => {
             u64::from(number) | (depth as u64) << 8 | (address as u64) << 16
         }
+    };
+    low | (admission.sweeps as u64) << 32
+}
+
+/// `riptide_foretell`: the table's length at bit 8, the bound at bit 32; or 11.
+fn foretell_number(image: &[u8]) -> u64 {
+    match foretell(image) {
+        Ok((length, bound)) => (length as u64) << 8 | (bound as u64) << 32,
+        Err(number) => number.into(),
     }
 }
 
@@ -228,15 +238,26 @@ fn begins(name: &str, with: &[&str]) -> bool {
 fn admitted() -> Vec<Entry> {
     let some = [
         "door", "example", "timing", "fault26", "fault27", "executed", "call", "return", "lowest",
-        "add-mask",
+        "add-mask", "sweeps",
     ];
     let case = |case: admissions::Case| {
         let mut table = vec![FILLER; case.table_bytes];
-        let verdict = admit(&case.image.expand(), &case.map.expand(), &mut table).verdict;
-        entry("admit", &case.name, case.entry().given, admit_number(verdict))
+        let answer = admit(&case.image.expand(), &case.map.expand(), &mut table);
+        entry("admit", &case.name, case.entry().given, admit_number(answer))
             .with_digest("table_digest", &table)
     };
     admissions::cases().into_iter().filter(|case| begins(&case.name, &some)).map(case).collect()
+}
+
+/// What is foretold of images of many lengths.
+fn foretold() -> Vec<Entry> {
+    let lengths = [0, 1, 2, 3, 4, 7, 800, 8190, 16_382, 16_383, 16_384, 16_385, 16_386];
+    let case = |count: usize| {
+        let image = Bytes::Lcg { seed: 9, count };
+        let given = vec![("image", image.text())];
+        entry("foretell", &count.to_string(), given, foretell_number(&image.expand()))
+    };
+    lengths.map(case).to_vec()
 }
 
 /// Some of the runs: each refusal, from reset and on, stops, a stopped state.
@@ -253,6 +274,6 @@ fn ran() -> Vec<Entry> {
 
 /// All calls.
 pub fn entries() -> Vec<Entry> {
-    let calls = [decoded(), encoded(), counted(), states(), admitted(), ran(), pages::entries()];
-    [vec![all_words()], calls.concat()].concat()
+    let calls = [decoded(), encoded(), counted(), states(), admitted(), foretold(), ran()];
+    [vec![all_words()], calls.concat(), pages::entries()].concat()
 }

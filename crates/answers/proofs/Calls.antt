@@ -1,0 +1,57 @@
+-- The finding that riptide_admit's number names, the sweeps that it counts, and demand 3 from the moment when it is 0. Assumes nothing.
+use mathlib.Core.List.{List}
+use mathlib.Core.Path.{_≡_, sym, ap, _∙_, subst⁻¹}
+use Prim.Native.Nat.{ℕ, _*_, _^_, _<_}
+use native.Mathlib.Nat.{mod-eq-of-lt}
+use native.Mathlib.Omega.{arith}
+use lib.ListN.{length}
+use borrow.Author.Tests.{eq-eqb}
+use Rattle.state.specs.State.{stateLength, resetBytes, resetNumberOf, resetState}
+use Rattle.emulator.specs.Run.{pairCount}
+use Rattle.admission.specs.Admission.{admitResult}
+use Rattle.admission.proofs.OneAnswer.{found-lowest}
+use Rattle.foretell.proofs.Counting.{counts-foretold}
+use Rattle.guarantee.specs.Demand.{Job, Executes, Flawless, finished, executes, turnedAway}
+use Rattle.guarantee.proofs.Admitted.{admitted-demand}
+use Rattle.answers.specs.Numbers.{runNumber}
+use Rattle.answers.specs.Calls.{admitGives, NumberNames, NumberCounts, Countable, noJob, fewPairs, runGives, Calls, noMore, gavePairs, gaveRefusal, AdmittedCalls}
+use Rattle.answers.proofs.Apart.{found-in, admit-apart, admit-low, admit-keeps, sweeps-apart, bound-apart}
+
+pub number-names : (image map table : List ℕ) → NumberNames image map table
+number-names image map table bytes finding =
+    found-lowest image map table bytes (sym (admit-apart image map table) ∙ found-in (admitGives image map table) finding)
+
+pub number-counts : (image map table : List ℕ) → NumberCounts image map table
+number-counts image map table bytes =
+    let above = sweeps-apart image map table bytes in
+    record {
+      low = admit-keeps image map table;
+      above = above;
+      bounded = omega (arith, above, bound-apart image, counts-foretold image map table bytes .bounded);
+    }
+
+module _ {image map table : List ℕ} where
+  gives-pairs : {state : List ℕ} {job : Job} → pairCount (job .recording) < 2 ^ 56 → Executes image map table state job
+      → runGives image map state job ≡ pairCount (job .recording) * 256
+  gives-pairs {state} {job} few e =
+      let kept = mod-eq-of-lt few in ap runNumber (e .answer) ∙ omega arith
+
+  calls : {state : List ℕ} {jobs : List Job} → Countable jobs → Flawless image map table state jobs → Calls image map state jobs
+  calls noJob finished = noMore
+  calls (fewPairs few rest) (executes e more) = gavePairs (gives-pairs few e) (calls rest more)
+  calls (fewPairs few rest) (turnedAway t more) =
+      gaveRefusal (t .fault) (ap runNumber (t .answer)) (t .state) (t .trace) (calls rest more)
+
+reset-done : (state : List ℕ) → length state ≡ stateLength → (resetNumberOf state ≡ 0) × (resetState state ≡ resetBytes)
+unfolding resetNumberOf resetState
+reset-done state h = (rw (eq-eqb (length state) stateLength h), rw (eq-eqb (length state) stateLength h))
+
+pub admitted-calls : (image map table state : List ℕ) → AdmittedCalls image map table state
+admitted-calls image map table state bytes z long =
+    let done = reset-done state long in (
+      done .0,
+      λ jobs few.
+          let flawless = subst⁻¹ (λ (s : List ℕ). Flawless image map (admitResult image map table .table) s jobs) (done .1)
+          (admitted-demand image map table bytes (admit-low image map table .0 z) jobs) in
+          (flawless, calls few flawless),
+    )

@@ -1,0 +1,21 @@
+-- Answers that fit the places of a number; all that the calls answer do.
+use Prim.Native.Nat.{ℕ, _≤_, _<_}
+use Rattle.map.specs.declared.Counts.{Counts}
+use Rattle.map.specs.declared.Counts.the-variants.{Sets, Refused as NotCounted}
+use Rattle.admission.specs.declared.AdmitAnswer.{AdmitAnswer}
+use Rattle.admission.specs.declared.AdmitAnswer.the-variants.{Refused as NotAdmitted, Admitted, Found}
+use Rattle.foretell.specs.declared.ForetellAnswer.{ForetellAnswer}
+use Rattle.foretell.specs.declared.ForetellAnswer.the-variants.{Refused as NotForetold, Foretold}
+
+abbrev pub CountsFit : Counts → Type 0
+CountsFit (Sets a b c d) = (a ≤ 256) × (b ≤ 256) × (c ≤ 256) × (d ≤ 256)
+CountsFit NotCounted = Unit
+
+abbrev pub VerdictFits : AdmitAnswer → Type 0
+VerdictFits (NotAdmitted number) = number < 256
+VerdictFits Admitted = Unit
+VerdictFits (Found number depth address) = (number < 256) × (depth < 256) × (address < 65536)
+
+abbrev pub ForetoldFits : ForetellAnswer → Type 0
+ForetoldFits NotForetold = Unit
+ForetoldFits (Foretold length bound) = (length < 16777216) × (bound < 4294967296)

@@ -1,0 +1,2 @@
+pub mod Foretell
+pub mod Counting
