@@ -1,4 +1,5 @@
-/* RIPTIDE-II panel programs: reading and writing words, counting a map's sets, admission, reset, run and listing.
+/* RIPTIDE-II panel programs: reading and writing words, counting a map's sets, foretelling, admission, reset, run and
+ * listing.
  *
  * Link target/staticlib/libriptide.a, which `rt staticlib riptide` writes. Every call takes any bytes of any length,
  * ends, and gives one number. A pointer is followed by the count of bytes behind it; with a count of 0 it must still
@@ -11,8 +12,8 @@
  * map, for example, can turn a refusal round, since the findings are asked of the map after the table has been filled.
  *
  * Time is bounded by sweeps and not by the clock: in an admission at most 108 sweeps for each word of the image change
- * the table and one more does not, and a sweep goes through 9 cells for each word. A run takes at most one step for
- * each pair. docs/RATES.md has seconds.
+ * the table and one more does not, and a sweep goes through 9 cells for each word. riptide_foretell tells the bound
+ * beforehand, riptide_admit how many it was. A run takes at most one step for each pair. docs/RATES.md has seconds.
  */
 #ifndef RIPTIDE_H
 #define RIPTIDE_H
@@ -25,8 +26,8 @@ extern "C" {
 #endif
 
 /* 10,000 times the first part, 100 times the second, and the third. */
-#define RIPTIDE_VERSION 20200
-#define RIPTIDE_VERSION_TEXT "2.2.0"
+#define RIPTIDE_VERSION 30000
+#define RIPTIDE_VERSION_TEXT "3.0.0"
 
 /* Lengths. An image has an even count of bytes, 2 at least. */
 #define RIPTIDE_WORD_BYTES 2
@@ -40,6 +41,7 @@ extern "C" {
 #define RIPTIDE_TABLE_RECORD_BYTES 16 /* a table of facts, for each cell */
 #define RIPTIDE_TABLE_WORD_BYTES 144 /* and for each word: one record for each depth, 0 to 8 */
 #define RIPTIDE_TABLE_BYTES(image_length) ((size_t)(image_length) / RIPTIDE_WORD_BYTES * RIPTIDE_TABLE_WORD_BYTES)
+#define RIPTIDE_WORD_SWEEPS 108 /* at most so many sweeps change a table, for each word */
 #define RIPTIDE_LINE_BYTES 32 /* a listing page, for each word: its line with the line feed */
 #define RIPTIDE_PAGE_BYTES(image_length) ((size_t)(image_length) / RIPTIDE_WORD_BYTES * RIPTIDE_LINE_BYTES)
 
@@ -127,14 +129,24 @@ uint64_t riptide_count_sets(const uint8_t *map, size_t map_length);
 /* Makes a state that of reset, all 36 bytes zero. 0, or 14 if the state is not 36 bytes. */
 uint64_t riptide_reset(uint8_t *state, size_t state_length);
 
+/* Tells of an image alone what its admission takes, whatever the map, without doing the work: a table of
+ * RIPTIDE_TABLE_LENGTH bytes, and at most RIPTIDE_SWEEP_BOUND sweeps that change it. RIPTIDE_NUMBER is 0, or 11 image:
+ * refused, and then the two are 0. */
+uint64_t riptide_foretell(const uint8_t *image, size_t image_length);
+
+#define RIPTIDE_TABLE_LENGTH(n) ((size_t)((n) >> 8 & 0xffffff))
+#define RIPTIDE_SWEEP_BOUND(n) ((unsigned)((n) >> 32))
+
 /* Reads a program before it runs, and fills the table of facts, whatever it held. RIPTIDE_NUMBER is 0: admitted, no cell
  * has a finding; 11 image, 12 map, 13 table: refused, nothing changed; 21-29: of all findings in the table the one of lowest
- * depth, and among those the one of lowest address, at RIPTIDE_DEPTH and RIPTIDE_ADDRESS. */
+ * depth, and among those the one of lowest address, at RIPTIDE_DEPTH and RIPTIDE_ADDRESS. RIPTIDE_SWEEPS is how many sweeps
+ * changed the table, 0 if refused; so an admitted program's number as a whole need not be 0. */
 uint64_t riptide_admit(const uint8_t *image, size_t image_length, const uint8_t *map, size_t map_length, uint8_t *table,
                        size_t table_length);
 
 #define RIPTIDE_DEPTH(n) ((unsigned)((n) >> 8 & 0xff))
 #define RIPTIDE_ADDRESS(n) ((unsigned)((n) >> 16 & 0xffff))
+#define RIPTIDE_SWEEPS(n) ((unsigned)((n) >> 32))
 
 /* Runs a program from a state over a recording, one word for each pair, until the machine stops. Writes the state
  * afterwards and a trace record for each step; later trace bytes stay. RIPTIDE_COUNT is the count of records and

@@ -1,9 +1,10 @@
-/* What a line-end station does with a program: reads the map and the image from standard input, admits, and, if
- * admitted, prints its listing page and runs one pass over a recording of zeros from reset. Build, from the repository's
- * root, after `rt staticlib riptide`:
+/* What a line-end station does with a program: reads the map and the image from standard input, foretells, makes room for
+ * the table, admits, and, if admitted, prints its listing page and runs one pass over a recording of zeros from reset. Build,
+ * from the repository's root, after `rt staticlib riptide`:
  *   cc -Iinclude hosts/c/station.c target/staticlib/libriptide.a -o target/station
  */
 #include <stdio.h>
+#include <stdlib.h>
 #include <string.h>
 
 #include "riptide.h"
@@ -13,8 +14,7 @@
 
 int main(void)
 {
-    static uint8_t input[MOST_INPUT + 1], table[RIPTIDE_TABLE_BYTES(RIPTIDE_MOST_IMAGE_BYTES)];
-    static uint8_t page[RIPTIDE_PAGE_BYTES(RIPTIDE_MOST_IMAGE_BYTES)];
+    static uint8_t input[MOST_INPUT + 1], page[RIPTIDE_PAGE_BYTES(RIPTIDE_MOST_IMAGE_BYTES)];
     uint8_t state[RIPTIDE_STATE_BYTES];
     uint8_t recording[RIPTIDE_PAIR_BYTES * PAIRS], trace[RIPTIDE_TRACE_RECORD_BYTES * PAIRS];
     size_t length = fread(input, 1, sizeof input, stdin);
@@ -25,13 +25,22 @@ int main(void)
     const uint8_t *map = input, *image = input + RIPTIDE_MAP_BYTES;
     size_t image_length = length - RIPTIDE_MAP_BYTES;
 
-    uint64_t answer =
-        riptide_admit(image, image_length, map, RIPTIDE_MAP_BYTES, table, RIPTIDE_TABLE_BYTES(image_length));
-    unsigned number = RIPTIDE_NUMBER(answer);
-    if (riptide_is_refusal(number)) {
+    uint64_t told = riptide_foretell(image, image_length);
+    unsigned number = RIPTIDE_NUMBER(told);
+    if (number != 0) {
         printf("refused %u: %s\n", number, riptide_text(number));
         return 1;
     }
+    uint8_t *table = malloc(RIPTIDE_TABLE_LENGTH(told));
+    if (table == NULL) {
+        puts("no room for the table");
+        return 2;
+    }
+    /* map and table have their lengths, so nothing is refused at the door any more */
+    uint64_t answer = riptide_admit(image, image_length, map, RIPTIDE_MAP_BYTES, table, RIPTIDE_TABLE_LENGTH(told));
+    free(table);
+    printf("sweeps %u of at most %u\n", RIPTIDE_SWEEPS(answer), RIPTIDE_SWEEP_BOUND(told));
+    number = RIPTIDE_NUMBER(answer);
     if (number != 0) {
         printf("refused %u depth %u address %u: %s\n", number, RIPTIDE_DEPTH(answer), RIPTIDE_ADDRESS(answer),
                riptide_text(number));

@@ -1,5 +1,5 @@
 -- Answers that fit the places of a number; all that the calls answer do.
-use Prim.Native.Nat.{ℕ, _≤_, _<_}
+use Prim.Native.Nat.{_≤_, _<_}
 use Rattle.map.specs.declared.Counts.{Counts}
 use Rattle.map.specs.declared.Counts.the-variants.{Sets, Refused as NotCounted}
 use Rattle.admission.specs.declared.AdmitAnswer.{AdmitAnswer}

@@ -3,7 +3,7 @@ use mathlib.Core.Path.{_≡_, refl, sym, _∙_, ap, subst}
 use mathlib.Core.Bool.{Bool, true, false, true≢false}
 use Prim.Native.Nat.{ℕ, zero, suc, _+_, _-_, _≤_, _<_}
 use native.Mathlib.Decide.{ℕ-discrete}
-use native.Mathlib.Nat.{le-refl, le-trans}
+use native.Mathlib.Nat.{le-trans}
 use native.Mathlib.Omega.{arith}
 use Rattle.choice.specs.Choice.{pick}
 use Rattle.flow.specs.Flow.{Space, sweep, sweepChanges, sweeps, sweepCount, Filling, Filled, sumWeights}
@@ -133,19 +133,3 @@ module _ {Tb C : Type 0} {S : Space Tb C} {Good : Tb → Type 0} {Fine : C → T
       let k : ℕ = sweepCount S n t₀ in
       let f : Filled S t₀ k (sweeps S k t₀) = count-filled n t₀ g l in
       subst (Filled S t₀ k) (sym (sweeps-rest t₀ k n g (f .still) (le-trans (filled-bound g f) l))) f
-
-  pub filled-exists : (t₀ : Tb) → Good t₀ → (k : ℕ) × (k ≤ sumWeights S t₀) × Filled S t₀ k (sweeps S k t₀)
-  filled-exists t₀ g =
-      let k : ℕ = sweepCount S (sumWeights S t₀) t₀ in
-      let f : Filled S t₀ k (sweeps S k t₀) = count-filled (sumWeights S t₀) t₀ g (le-refl (sumWeights S t₀)) in
-      (k, filled-bound g f, f)
-
-  -- what a loop has filled is what the definitions compute
-  pub filled-count : {t₀ t : Tb} {k : ℕ} (n : ℕ) → Good t₀ → sumWeights S t₀ ≤ n → Filled S t₀ k t → k ≡ sweepCount S n t₀
-  filled-count {t₀} n g l f = filled-count-unique f (filled-sweeps t₀ n g l)
-
-  pub filled-table : {t₀ t : Tb} {k : ℕ} (n : ℕ) → Good t₀ → sumWeights S t₀ ≤ n → Filled S t₀ k t → t ≡ sweeps S n t₀
-  filled-table {t₀} n g l f = filled-table-unique f (filled-sweeps t₀ n g l)
-
-  pub sweepCount-bound : (t₀ : Tb) (n : ℕ) → Good t₀ → sumWeights S t₀ ≤ n → sweepCount S n t₀ ≤ sumWeights S t₀
-  sweepCount-bound t₀ n g l = filled-bound g (filled-sweeps t₀ n g l)

@@ -1,26 +1,24 @@
 -- What admission counts, and that foretelling told it. Assumes nothing.
 use mathlib.Core.Bool.{Bool, true, false}
 use mathlib.Core.List.{List}
-use mathlib.Core.Logic.{_≢_}
 use mathlib.Core.Path.{_≡_, refl, ap}
-use Prim.Native.Nat.{ℕ, suc, _≤_, _<_}
+use Prim.Native.Nat.{ℕ, suc, _<_}
 use native.Mathlib.Omega.{arith}
 use lib.Dec.{eqb}
 use lib.ListN.{length as size}
 use borrow.Author.Tests.{eqb-false}
-use Rattle.choice.specs.Choice.{pick, firstNo}
+use Rattle.choice.specs.Choice.{pick}
 use Rattle.map.specs.Map.{mapLength}
 use Rattle.state.specs.State.{EachBelow}
-use Rattle.flow.specs.Flow.{Filled}
 use Rattle.emulator.specs.Run.{imageFits}
 use Rattle.emulator.proofs.Door.{image-some}
-use Rattle.transfer.specs.Passes.{tableSpace, tableLength, startTable, sweepBound, leastTable, sweepsOf}
+use Rattle.transfer.specs.Passes.{tableLength, sweepBound, leastTable, sweepsOf}
 use Rattle.transfer.proofs.LeastTable.{least-filled, count-bound}
-use Rattle.admission.specs.Admission.{verdictOf, filledTable, admitQuestions, AdmitResult, resulting, admitResult}
+use Rattle.admission.specs.Admission.{verdictOf, filledTable, resulting, admitResult}
 use Rattle.admission.specs.declared.AdmitAnswer.the-variants.{Refused as NotAdmitted}
 use Rattle.foretell.specs.declared.ForetellAnswer.{ForetellAnswer}
 use Rattle.foretell.specs.declared.ForetellAnswer.the-variants.{Refused, Foretold}
-use Rattle.foretell.specs.Foretell.{foretold, boundOf}
+use Rattle.foretell.specs.Foretell.{foretold}
 use Rattle.foretell.specs.Counting.{Agree, CountsForetold}
 
 -- of an answer: 0 for a refusal, and 1 more than the length that it foretells
@@ -36,6 +34,7 @@ module _ (image map table : List ℕ) where
       let some = image-some image fits in
       record {
         counted = λ _. least-filled image bytes some;
+        alike = λ _. refl;
         unswept = λ some. absurd (some refl);
         bounded = count-bound image bytes some;
         letIn = λ _ _ _. refl;
@@ -49,6 +48,7 @@ module _ (image map table : List ℕ) where
   for-another number some unfit =
       record {
         counted = λ z. absurd (omega arith);
+        alike = λ z. absurd (omega arith);
         unswept = λ _. refl;
         bounded = omega arith;
         letIn = λ e t m. absurd (unfit (omega (arith, t, ap lengthIn e)) m);
@@ -60,6 +60,7 @@ module _ (image map table : List ℕ) where
   for-the-image =
       record {
         counted = λ z. absurd (omega arith);
+        alike = λ z. absurd (omega arith);
         unswept = λ _. refl;
         bounded = omega arith;
         letIn = λ e _ _. absurd (omega (arith, ap lengthIn e));

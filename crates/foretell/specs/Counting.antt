@@ -9,7 +9,7 @@ use Rattle.choice.specs.Choice.{firstNo}
 use Rattle.map.specs.Map.{mapLength}
 use Rattle.state.specs.State.{EachBelow}
 use Rattle.flow.specs.Flow.{Filled}
-use Rattle.transfer.specs.Passes.{tableSpace, startTable, leastTable}
+use Rattle.transfer.specs.Passes.{tableSpace, startTable, leastTable, sweepsOf}
 use Rattle.admission.specs.declared.AdmitAnswer.the-variants.{Refused as NotAdmitted}
 use Rattle.admission.specs.Admission.{admitQuestions, AdmitResult, admitResult}
 use Rattle.foretell.specs.declared.ForetellAnswer.{ForetellAnswer}
@@ -21,6 +21,8 @@ use Rattle.foretell.specs.Foretell.{foretold, boundOf}
 pub record Agree (image map table : List ℕ) (door : ℕ) (admitted : AdmitResult) (told : ForetellAnswer) : Type 0 where
   -- Past the door: from the reset cell, as many sweeps as are counted each changed the table, and one more changes nothing.
   pub counted : door ≡ 0 → Filled (tableSpace image) (startTable image) (admitted .sweeps) (leastTable image)
+  -- That count is the image's own: no map changes it, and nothing that the table held.
+  pub alike : door ≡ 0 → admitted .sweeps ≡ sweepsOf image
   -- "a door refusal has count 0"
   pub unswept : door ≢ 0 → admitted .sweeps ≡ 0
   -- What is counted is at most what was foretold.

@@ -91,6 +91,7 @@ mod raw {
         pub fn riptide_write_word(opcode: usize, field_1: usize, field_2: usize, field_3: usize) -> u64;
         pub fn riptide_count_sets(map: *const u8, map_len: usize) -> u64;
         pub fn riptide_reset(state: *mut u8, state_len: usize) -> u64;
+        pub fn riptide_foretell(image: *const u8, image_len: usize) -> u64;
         pub fn riptide_admit(
             image: *const u8,
             image_len: usize,
@@ -166,16 +167,37 @@ impl fmt::Display for AdmitAnswer {
     }
 }
 
+/// Admission's answer, and beside it the count of sweeps that changed the table: 0 where it is refused.
+#[derive(Clone, Copy, Debug, PartialEq, Eq)]
+pub struct Answered {
+    pub answer: AdmitAnswer,
+    pub sweeps: u32,
+}
+
 /// Reads an image under a map, and fills the table of facts.
-pub fn admit(image: &[u8], map: &[u8], table: &mut [u8]) -> AdmitAnswer {
-    let answer = unsafe {
+pub fn admit(image: &[u8], map: &[u8], table: &mut [u8]) -> Answered {
+    let number = unsafe {
         raw::riptide_admit(image.as_ptr(), image.len(), map.as_ptr(), map.len(), table.as_mut_ptr(), table.len())
     };
-    match answer as u8 {
+    let answer = match number as u8 {
         0 => AdmitAnswer::Admitted,
-        number @ 11..=18 => AdmitAnswer::Refused(Refusal(number)),
-        number => AdmitAnswer::Found { number, depth: (answer >> 8) as u8, address: (answer >> 16) as u16 },
-    }
+        refused @ 11..=18 => AdmitAnswer::Refused(Refusal(refused)),
+        found => AdmitAnswer::Found { number: found, depth: (number >> 8) as u8, address: (number >> 16) as u16 },
+    };
+    Answered { answer, sweeps: (number >> 32) as u32 }
+}
+
+/// What an admission takes: the length of the table, and at most so many sweeps that change it.
+#[derive(Clone, Copy, Debug, PartialEq, Eq)]
+pub struct Foretold {
+    pub table_length: usize,
+    pub sweep_bound: u32,
+}
+
+/// Tells of an image alone what its admission takes, without doing the work; 11 for an image of another length.
+pub fn foretell(image: &[u8]) -> Result<Foretold, Refusal> {
+    let bits = unrefused(unsafe { raw::riptide_foretell(image.as_ptr(), image.len()) })?;
+    Ok(Foretold { table_length: bits as usize & 0xff_ffff, sweep_bound: (bits >> 24) as u32 })
 }
 
 /// What a run answers.

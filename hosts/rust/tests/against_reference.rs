@@ -1,16 +1,16 @@
 //! The library against the independent reference: random images, maps, states, recordings and tables, valid and damaged.
 //! `RIPTIDE_CASES` sets how many cases are run (default 20,000).
 
-use riptide::{
-    admit, count_sets, list, page_length, read_word, records, reset, run, table_length, trace_length, write_word,
-};
-use riptide::{AdmitAnswer, Fields, Refusal, RunAnswer, TraceRecord};
+use riptide::{admit, count_sets, foretell, list, page_length, read_word, records, reset, run, write_word};
+use riptide::{table_length, trace_length};
+use riptide::{AdmitAnswer, Answered, Fields, Refusal, RunAnswer, TraceRecord};
+use riptide_reference::cases::sweeps;
 use riptide_reference::digest::Random;
 use riptide_reference::listing;
 use riptide_reference::programs::{bytes_of, damage, random_map, random_program, random_state, random_words};
 use riptide_reference::programs::{sum_words, with_return_bytes};
 use riptide_reference::run as reference;
-use riptide_reference::table::{admit as reference_admit, findings, Verdict};
+use riptide_reference::table::{admit as reference_admit, findings, foretell as reference_foretell, Verdict};
 use riptide_reference::word::{decode, encode, is_bank, Word};
 use riptide_reference::{map as reference_map, programs};
 
@@ -136,11 +136,15 @@ fn admission_equal_to_the_reference() {
             }
         }
         let mut table2 = table.clone();
-        let ours = admit(&image, &map, &mut table);
-        let theirs = reference_admit(&image, &map, &mut table2).verdict;
-        assert_eq!(told_verdict(ours), theirs, "case {case}");
+        let Answered { answer, sweeps } = admit(&image, &map, &mut table);
+        let theirs = reference_admit(&image, &map, &mut table2);
+        assert_eq!(told_verdict(answer), theirs.verdict, "case {case}");
+        assert_eq!(sweeps as usize, theirs.sweeps, "case {case}");
         assert_eq!(table, table2, "table of case {case}");
-        match ours {
+        let told = foretell(&image).map(|told| (told.table_length, told.sweep_bound as usize));
+        assert!(told.is_err() || told.is_ok_and(|(_, bound)| sweeps as usize <= bound), "case {case}");
+        assert_eq!(told.map_err(Refusal::number), reference_foretell(&image), "case {case}");
+        match answer {
             AdmitAnswer::Refused(_) => refused += 1,
             AdmitAnswer::Admitted => {
                 admitted += 1;
@@ -160,6 +164,27 @@ fn admission_equal_to_the_reference() {
     println!("{cases} cases, {admitted} admitted, {refused} refused, findings 21-29: {:?}", &found[21..]);
     println!("a lower address had a finding in {lower_address}, a cell another number in {other_number}");
     assert!(cases < 1000 || lower_address > 0 && other_number > 0);
+}
+
+/// Counts that follow from how the images are made, up to the longest ones; the map and what the table held do not matter.
+#[test]
+fn sweeps_of_long_images() {
+    let images = [
+        (sweeps::line(8192), 1),
+        (sweeps::backwards(8192), 8190),
+        (sweeps::calls(8), 8),
+        (sweeps::tables(4, 255), 254),
+        (sweeps::shifts(false), 7),
+    ];
+    for (words, count) in images {
+        let image = bytes_of(&words);
+        let told = foretell(&image).expect("an image");
+        for byte in [0, 0xff] {
+            let answered = admit(&image, &[byte; 128], &mut vec![byte; told.table_length]);
+            assert_eq!(answered.sweeps, count);
+            assert!(count <= told.sweep_bound && told.sweep_bound as usize == 108 * words.len());
+        }
+    }
 }
 
 /// A word's case as the library's opcode and fields, or 22.

@@ -113,18 +113,20 @@ fn the_station_in_c() {
         let input = fs::File::open(root().join(name)).expect(name);
         output(&mut Command::new(&program), input.into())
     };
-    for name in ["indicator", "routine", "chooser", "carry"] {
+    for (name, sweeps) in [("indicator", 1), ("routine", 1), ("chooser", 1), ("carry", 1)] {
         let admitted = station(&format!("samples/{name}.bin"));
         let page = read(&format!("samples/{name}.lst"));
-        assert_eq!(admitted, format!("admitted, left 1 0 right 0 1\n{page}ran 1000 steps, stop 0\n"), "{name}");
+        let bound = 108 * page.lines().count();
+        let told = format!("sweeps {sweeps} of at most {bound}\nadmitted, left 1 0 right 0 1\n");
+        assert_eq!(admitted, format!("{told}{page}ran 1000 steps, stop 0\n"), "{name}");
     }
     assert_eq!(
         station("samples/odometer.bin"),
-        "refused 28 depth 0 address 3: an address or a CALL's page is not known\n"
+        "sweeps 2 of at most 864\nrefused 28 depth 0 address 3: an address or a CALL's page is not known\n"
     );
     assert_eq!(
         station("samples/levels.bin"),
-        "refused 25 depth 0 address 6: chooses an address that is not listed\n"
+        "sweeps 3 of at most 864\nrefused 25 depth 0 address 6: chooses an address that is not listed\n"
     );
     let short = source("short.bin", &"\0".repeat(131));
     assert_eq!(
@@ -142,12 +144,14 @@ int main(void)
 {
     const unsigned lengths[] = {RIPTIDE_VERSION, RIPTIDE_MAP_BYTES, 4 * RIPTIDE_SET_BYTES, RIPTIDE_STATE_BYTES,
         RIPTIDE_MOST_IMAGE_BYTES, RIPTIDE_WORD_BYTES * RIPTIDE_MOST_WORDS, RIPTIDE_TABLE_WORD_BYTES,
-        9 * RIPTIDE_TABLE_RECORD_BYTES, RIPTIDE_PAIR_BYTES, RIPTIDE_TRACE_RECORD_BYTES, RIPTIDE_LINE_BYTES,
+        9 * RIPTIDE_TABLE_RECORD_BYTES, RIPTIDE_WORD_SWEEPS, RIPTIDE_PAIR_BYTES, RIPTIDE_TRACE_RECORD_BYTES,
+        RIPTIDE_LINE_BYTES,
         RIPTIDE_REFUSED_IMAGE, RIPTIDE_REFUSED_MAP, RIPTIDE_REFUSED_TABLE, RIPTIDE_REFUSED_STATE,
         RIPTIDE_REFUSED_RECORDING, RIPTIDE_REFUSED_TRACE, RIPTIDE_REFUSED_INPUT, RIPTIDE_OUTSIDE_CODE,
         RIPTIDE_INVALID_WORD, RIPTIDE_NOT_READABLE, RIPTIDE_NOT_WRITABLE, RIPTIDE_NOT_LISTED, RIPTIDE_STACK_FULL,
         RIPTIDE_STACK_EMPTY, RIPTIDE_NOT_KNOWN, RIPTIDE_XEC_OF_XEC, RIPTIDE_REFUSED_PAGE};
     const uint8_t record[RIPTIDE_TRACE_RECORD_BYTES] = {0, 0, 0, 0, 0x34, 0x12, 0xff, 0xfe};
+    const uint64_t answer = 0xfedcba98175308ff, told = 0xfedcba9887654300;
     size_t i;
     unsigned number;
     puts(RIPTIDE_VERSION_TEXT);
@@ -155,6 +159,9 @@ int main(void)
         printf("%u ", lengths[i]);
     printf("%lu %lu\n", (unsigned long)RIPTIDE_TABLE_BYTES(7), (unsigned long)RIPTIDE_PAGE_BYTES(7));
     printf("%u %u\n", RIPTIDE_TRACE_PC(record), RIPTIDE_TRACE_FETCH(record));
+    printf("%u %u %u %u\n", RIPTIDE_NUMBER(answer), RIPTIDE_DEPTH(answer), RIPTIDE_ADDRESS(answer),
+           RIPTIDE_SWEEPS(answer));
+    printf("%lu %u\n", (unsigned long)RIPTIDE_TABLE_LENGTH(told), RIPTIDE_SWEEP_BOUND(told));
     for (number = 0; number < 256; number++)
         printf("%u %d %s\n", number, riptide_is_refusal(number), riptide_text(number));
     return (int)RIPTIDE_NUMBER(riptide_read_word(0));
@@ -163,13 +170,14 @@ int main(void)
 
 #[test]
 fn the_header_in_c_and_cpp() {
-    let mut expected = format!("{}\n20200 ", env!("CARGO_PKG_VERSION"));
+    let mut expected = format!("{}\n30000 ", env!("CARGO_PKG_VERSION"));
     expected +=
-        &format!("{MAP_BYTES} {MAP_BYTES} {STATE_BYTES} 16384 16384 144 144 2 {TRACE_RECORD_BYTES} {LINE_BYTES} ");
+        &format!("{MAP_BYTES} {MAP_BYTES} {STATE_BYTES} 16384 16384 144 144 108 2 {TRACE_RECORD_BYTES} {LINE_BYTES} ");
     expected += "11 12 13 14 15 16 18 21 22 23 24 25 26 27 28 29 41 ";
     expected += &format!("{} {}\n", table_length(&[0; 7]), page_length(&[0; 7]));
     let record = records(&[0, 0, 0, 0, 0x34, 0x12, 0xff, 0xfe]).next().expect("a record");
     expected += &format!("{} {}\n", record.pc, record.fetch);
+    expected += &format!("255 8 {} {}\n{} {}\n", 0x1753, 0xfedcba98u32, 0x876543, 0xfedcba98u32);
     for number in 0..=255 {
         let refusal = u8::from((11..=18).contains(&number) || number == 41);
         expected += &format!("{number} {refusal} {}\n", text(number));
@@ -216,7 +224,7 @@ fn findings_of_the_guide() {
         assert!(guide.contains(&format!("`{text}`")), "{text}");
         let words: Vec<u16> = text.split(' ').map(|word| u16::from_str_radix(word, 16).expect(word)).collect();
         let image = bytes_of(&words);
-        admit(&image, &map_of(sets), &mut vec![0; table_length(&image)])
+        admit(&image, &map_of(sets), &mut vec![0; table_length(&image)]).answer
     };
     for (number, words, sets, (depth, address)) in findings {
         assert_eq!(answer(words, sets), AdmitAnswer::Found { number, depth, address }, "{words}");
@@ -260,7 +268,7 @@ int main(void)
     static uint8_t table[RIPTIDE_TABLE_BYTES(sizeof image)], table2[RIPTIDE_TABLE_BYTES(sizeof image2)];
     uint8_t state[RIPTIDE_STATE_BYTES], trace[sizeof recording / RIPTIDE_PAIR_BYTES * RIPTIDE_TRACE_RECORD_BYTES];
     uint8_t page[RIPTIDE_PAGE_BYTES(sizeof image)];
-    uint64_t numbers[7];
+    uint64_t numbers[8];
     int i;
     riptide_reset(state, sizeof state);
     numbers[0] = riptide_read_word(0x173f);
@@ -271,13 +279,14 @@ int main(void)
                              trace, sizeof trace);
     numbers[5] = riptide_admit(image2, sizeof image2, map2, sizeof map2, table2, sizeof table2);
     numbers[6] = riptide_list(image, sizeof image, page, sizeof page - 1);
+    numbers[7] = riptide_foretell(image, sizeof image);
     riptide_list(image, sizeof image, page, sizeof page);
     fwrite(trace, 1, sizeof trace, stdout);
     fwrite(state, 1, sizeof state, stdout);
     fwrite(table + RIPTIDE_TABLE_RECORD_BYTES * 2, 1, RIPTIDE_TABLE_RECORD_BYTES, stdout);
     fwrite(table2 + RIPTIDE_TABLE_RECORD_BYTES * 3, 1, RIPTIDE_TABLE_RECORD_BYTES, stdout);
     fwrite(page, 1, sizeof page, stdout);
-    for (i = 0; i < 7; i++)
+    for (i = 0; i < 8; i++)
         printf("%016llX\n", (unsigned long long)numbers[i]);
     return 0;
 }

@@ -2,7 +2,7 @@
 //! admission for the images of 8,192 words that `docs/RATES.md` names, where it is said how these are run; maps whose sets are
 //! counted; and words listed.
 
-use riptide::{admit, count_sets, list, page_length, run, table_length, AdmitAnswer, RunAnswer};
+use riptide::{admit, count_sets, list, page_length, run, table_length, Answered, RunAnswer};
 use riptide::{MAP_BYTES, TRACE_RECORD_BYTES};
 use riptide_reference::digest::{lcg_bytes, Digest};
 use riptide_reference::direct;
@@ -158,8 +158,8 @@ fn images_are_named_as_in_the_table() {
     assert_eq!(rows.collect::<Vec<_>>(), images().map(|(name, _)| name));
 }
 
-/// The library's answer, its table and its seconds.
-fn admitted(image: &[u8]) -> (AdmitAnswer, Vec<u8>, f64) {
+/// The library's answer with its sweeps, its table and its seconds.
+fn admitted(image: &[u8]) -> (Answered, Vec<u8>, f64) {
     let mut table = vec![0; table_length(image)];
     let started = Instant::now();
     let answer = admit(image, &[255; 128], &mut table);
@@ -177,7 +177,10 @@ fn admission_seconds() {
         let theirs = riptide_reference::table::admit(&image, &[255; 128], &mut table2);
         let reference = started.elapsed().as_secs_f64();
         assert_eq!(table, table2);
-        println!("{name}: {ours}, {} sweeps, {seconds:.3} s, reference {reference:.3} s", theirs.sweeps);
+        assert_eq!(ours.sweeps as usize, theirs.sweeps);
+        let Answered { answer, sweeps } = ours;
+        let each = seconds * 1e6 / f64::from(sweeps + 1);
+        println!("{name}: {answer}, {sweeps} sweeps, {seconds:.3} s, {each:.0} us a sweep, reference {reference:.3} s");
     }
 }
 
@@ -185,8 +188,8 @@ fn admission_seconds() {
 #[ignore]
 fn dearest_image() {
     let [.., (name, words)] = images();
-    let (answer, _, seconds) = admitted(&bytes_of(&words));
-    println!("{name}: {answer}, {seconds:.0} s");
+    let (Answered { answer, sweeps }, _, seconds) = admitted(&bytes_of(&words));
+    println!("{name}: {answer}, {sweeps} sweeps, {seconds:.0} s");
 }
 
 const MAPS: usize = 100_000;
