@@ -60,7 +60,7 @@ module _ {Tb C : Type 0} (S : Space Tb C) where
   sweepChangesFrom t i zero = false
   sweepChangesFrom t i (suc n) = turnChanges t i || sweepChangesFrom (turn t i) (suc i) n
 
-  -- a sweep: the turn of every cell, once, in order
+  -- a sweep (request 2026-07 of document 02): the turn of every cell, once, in order; one that is not reached passes nothing on
   abbrev pub sweep : Tb → Tb
   sweep t = sweepFrom t 0 (S .size)
 

@@ -5,7 +5,7 @@ use mathlib.Core.Path.{_≡_, refl, ap}
 use Prim.Native.Nat.{ℕ, suc, _<_}
 use native.Mathlib.Omega.{arith}
 use lib.Dec.{eqb}
-use lib.ListN.{length as size}
+use lib.ListN.{length}
 use borrow.Author.Tests.{eqb-false}
 use Rattle.choice.specs.Choice.{pick}
 use Rattle.map.specs.Map.{mapLength}
@@ -24,7 +24,7 @@ use Rattle.foretell.specs.Counting.{Agree, CountsForetold}
 -- of an answer: 0 for a refusal, and 1 more than the length that it foretells
 lengthIn : ForetellAnswer → ℕ
 lengthIn Refused = 0
-lengthIn (Foretold length bound) = suc length
+lengthIn (Foretold long most) = suc long
 
 module _ (image map table : List ℕ) where
   let-in : EachBelow 256 image → imageFits image ≡ true
@@ -42,7 +42,7 @@ module _ (image map table : List ℕ) where
       }
 
   -- refused for the map or the table
-  for-another : (number : ℕ) → 0 < number → (size table ≡ tableLength image → size map ≡ mapLength → ⊥)
+  for-another : (number : ℕ) → 0 < number → (length table ≡ tableLength image → length map ≡ mapLength → ⊥)
       → Agree image map table number (resulting (NotAdmitted number) 0 table) (Foretold (tableLength image) (sweepBound image))
   unfolding lengthIn
   for-another number some unfit =
@@ -69,13 +69,13 @@ module _ (image map table : List ℕ) where
 
 pub counts-foretold : (image map table : List ℕ) → CountsForetold image map table
 unfolding admitResult foretold
-counts-foretold image map table bytes = go (imageFits image) refl (eqb (size map) mapLength) refl (eqb (size table) (tableLength image)) refl
+counts-foretold image map table bytes = go (imageFits image) refl (eqb (length map) mapLength) refl (eqb (length table) (tableLength image)) refl
   where
-    go : (a : Bool) → imageFits image ≡ a → (b : Bool) → eqb (size map) mapLength ≡ b → (c : Bool) → eqb (size table) (tableLength image) ≡ c
+    go : (a : Bool) → imageFits image ≡ a → (b : Bool) → eqb (length map) mapLength ≡ b → (c : Bool) → eqb (length table) (tableLength image) ≡ c
         → Agree image map table (pick a (pick b (pick c 0 13) 12) 11)
         (pick a (pick b (pick c (resulting (verdictOf image map (leastTable image)) (sweepsOf image) (filledTable image map)) (resulting (NotAdmitted 13) 0 table)) (resulting (NotAdmitted 12) 0 table)) (resulting (NotAdmitted 11) 0 table))
         (pick a (Foretold (tableLength image) (sweepBound image)) Refused)
     go false ea b eb c ec = for-the-image image map table
-    go true ea false eb c ec = for-another image map table 12 (omega arith) (λ _ m. eqb-false (size map) mapLength eb m)
-    go true ea true eb false ec = for-another image map table 13 (omega arith) (λ t _. eqb-false (size table) (tableLength image) ec t)
+    go true ea false eb c ec = for-another image map table 12 (omega arith) (λ _ m. eqb-false (length map) mapLength eb m)
+    go true ea true eb false ec = for-another image map table 13 (omega arith) (λ t _. eqb-false (length table) (tableLength image) ec t)
     go true ea true eb true ec = let-in image map table bytes ea

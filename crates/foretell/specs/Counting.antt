@@ -4,7 +4,7 @@ use mathlib.Core.Path.{_≡_}
 use mathlib.Core.Logic.{_≢_}
 use mathlib.Core.List.{List}
 use Prim.Native.Nat.{ℕ, _≤_}
-use lib.ListN.{length as size}
+use lib.ListN.{length}
 use Rattle.choice.specs.Choice.{firstNo}
 use Rattle.map.specs.Map.{mapLength}
 use Rattle.state.specs.State.{EachBelow}
@@ -28,7 +28,7 @@ pub record Agree (image map table : List ℕ) (door : ℕ) (admitted : AdmitResu
   -- What is counted is at most what was foretold.
   pub bounded : admitted .sweeps ≤ boundOf told
   -- A table of the length that was foretold is let in, with a map of its length.
-  pub letIn : {length bound : ℕ} → told ≡ Foretold length bound → size table ≡ length → size map ≡ mapLength → door ≡ 0
+  pub letIn : {long most : ℕ} → told ≡ Foretold long most → length table ≡ long → length map ≡ mapLength → door ≡ 0
   -- Where foretelling refuses, admission does.
   pub turnedAway : told ≡ Refused → admitted .answer ≡ NotAdmitted 11
 
