@@ -35,13 +35,13 @@ NumberNames image map table =
 
 -- The sweeps (request 2026-07 of document 02): the low 32 bits of riptide_admit's number tell the answer alone, as they did
 -- before; RIPTIDE_SWEEPS is admission's count; and it is at most RIPTIDE_SWEEP_BOUND of riptide_foretell's number.
-pub record Sweeps (image map table : List ℕ) : Type 0 where
+pub record CountTold (image map table : List ℕ) : Type 0 where
   pub low : bitsFrom 0 32 (admitGives image map table) ≡ verdictNumber (admitResult image map table .answer)
   pub above : sweepsIn (admitGives image map table) ≡ admitResult image map table .sweeps
   pub bounded : sweepsIn (admitGives image map table) ≤ bitsFrom 32 32 (foretellGives image)
 
 abbrev pub NumberCounts : List ℕ → List ℕ → List ℕ → Type 0
-NumberCounts image map table = EachBelow 256 image → Sweeps image map table
+NumberCounts image map table = EachBelow 256 image → CountTold image map table
 
 -- Recordings of fewer than 2^56 pairs, whose count fits its place; no memory holds a longer one.
 pub data Countable : List Job → Type 0 where
