@@ -1,6 +1,7 @@
 -- The loop that sweeps a table until nothing changes: its invariant, how many sweeps it takes at most, and what it computes.
 use mathlib.Core.Path.{_≡_, refl, sym, _∙_, ap, subst}
 use mathlib.Core.Bool.{Bool, true, false, true≢false}
+use mathlib.Core.Logic.{_≢_}
 use Prim.Native.Nat.{ℕ, zero, suc, _+_, _-_, _≤_, _<_}
 use native.Mathlib.Decide.{ℕ-discrete}
 use native.Mathlib.Nat.{le-trans}
@@ -95,6 +96,14 @@ module _ {Tb C : Type 0} {S : Space Tb C} {Good : Tb → Type 0} {Fine : C → T
 
   pub filled-bound : {t₀ t : Tb} {k : ℕ} → Good t₀ → Filled S t₀ k t → k ≤ sumWeights S t₀
   filled-bound g f = omega (arith, filling-bound g (f .filling))
+
+  -- ---- told of the tables: each of the sweeps left another table than it found, and one more leaves it as it is
+  pub filled-changed : {t₀ t : Tb} {k : ℕ} → Good t₀ → Filled S t₀ k t → (j : ℕ) → j < k → sweep S (sweeps S j t₀) ≢ sweeps S j t₀
+  filled-changed {t₀} g f j l same =
+      omega (arith, ap (sumWeights S) same, sweep-falls L (sweeps S j t₀) (sweeps-good L j t₀ g) (f .filling .changed j l))
+
+  pub filled-still : {t₀ t : Tb} {k : ℕ} → Good t₀ → Filled S t₀ k t → sweep S t ≡ t
+  filled-still {t} g f = sweep-still L t (filling-good g (f .filling)) (f .still)
 
   -- ---- the count and the table can be computed: as many sweeps as the sum of the weights are enough
   weightless-still : (t : Tb) → Good t → sumWeights S t ≤ 0 → sweepChanges S t ≡ false

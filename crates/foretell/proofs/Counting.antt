@@ -1,7 +1,7 @@
 -- What admission counts, and that foretelling told it. Assumes nothing.
 use mathlib.Core.Bool.{Bool, true, false}
 use mathlib.Core.List.{List}
-use mathlib.Core.Path.{_≡_, refl, ap}
+use mathlib.Core.Path.{_≡_, refl, sym, ap}
 use Prim.Native.Nat.{ℕ, suc, _<_}
 use native.Mathlib.Omega.{arith}
 use lib.Dec.{eqb}
@@ -13,6 +13,8 @@ use Rattle.state.specs.State.{EachBelow}
 use Rattle.emulator.specs.Run.{imageFits}
 use Rattle.emulator.proofs.Door.{image-some}
 use Rattle.transfer.specs.Passes.{tableLength, sweepBound, leastTable, sweepsOf}
+use Rattle.flow.proofs.Filling.{filled-changed, filled-still}
+use Rattle.transfer.proofs.TableLaws.{table-laws, start-begins}
 use Rattle.transfer.proofs.LeastTable.{least-filled, count-bound}
 use Rattle.admission.specs.Admission.{verdictOf, filledTable, resulting, admitResult}
 use Rattle.admission.specs.declared.AdmitAnswer.the-variants.{Refused as NotAdmitted}
@@ -32,8 +34,11 @@ module _ (image map table : List ℕ) where
   unfolding lengthIn
   let-in bytes fits =
       let some = image-some image fits in
+      let good = start-begins image bytes some .good in
       record {
-        counted = λ _. least-filled image bytes some;
+        changed = λ _. filled-changed (table-laws image bytes) good (least-filled image bytes some);
+        filled = λ _. sym (least-filled image bytes some .filling .swept);
+        still = λ _. filled-still (table-laws image bytes) good (least-filled image bytes some);
         alike = λ _. refl;
         unswept = λ some. absurd (some refl);
         bounded = count-bound image bytes some;
@@ -47,7 +52,9 @@ module _ (image map table : List ℕ) where
   unfolding lengthIn
   for-another number some unfit =
       record {
-        counted = λ z. absurd (omega arith);
+        changed = λ z. absurd (omega arith);
+        filled = λ z. absurd (omega arith);
+        still = λ z. absurd (omega arith);
         alike = λ z. absurd (omega arith);
         unswept = λ _. refl;
         bounded = omega arith;
@@ -59,7 +66,9 @@ module _ (image map table : List ℕ) where
   unfolding lengthIn
   for-the-image =
       record {
-        counted = λ z. absurd (omega arith);
+        changed = λ z. absurd (omega arith);
+        filled = λ z. absurd (omega arith);
+        still = λ z. absurd (omega arith);
         alike = λ z. absurd (omega arith);
         unswept = λ _. refl;
         bounded = omega arith;

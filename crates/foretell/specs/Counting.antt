@@ -1,14 +1,14 @@
--- What admission's count says, and how it and the second call agree (request 2026-07 of document 02), told apart from how
--- `sweepCount` counts.
+-- What admission's count says, and how it and the second call agree (request 2026-07 of document 02), told of the tables that
+-- sweeps leave, apart from how `sweepCount` counts.
 use mathlib.Core.Path.{_≡_}
 use mathlib.Core.Logic.{_≢_}
 use mathlib.Core.List.{List}
-use Prim.Native.Nat.{ℕ, _≤_}
+use Prim.Native.Nat.{ℕ, _≤_, _<_}
 use lib.ListN.{length}
 use Rattle.choice.specs.Choice.{firstNo}
 use Rattle.map.specs.Map.{mapLength}
 use Rattle.state.specs.State.{EachBelow}
-use Rattle.flow.specs.Flow.{Filled}
+use Rattle.flow.specs.Flow.{sweep, sweeps}
 use Rattle.transfer.specs.Passes.{tableSpace, startTable, leastTable, sweepsOf}
 use Rattle.admission.specs.declared.AdmitAnswer.the-variants.{Refused as NotAdmitted}
 use Rattle.admission.specs.Admission.{admitQuestions, AdmitResult, admitResult}
@@ -19,8 +19,12 @@ use Rattle.foretell.specs.Foretell.{foretold, boundOf}
 -- What admission yields and foretelling answers of an image, a map and a table, `door` being the number of the first no that
 -- admission's questions get, or 0.
 pub record Agree (image map table : List ℕ) (door : ℕ) (admitted : AdmitResult) (told : ForetellAnswer) : Type 0 where
-  -- Past the door: from the reset cell, as many sweeps as are counted each changed the table, and one more changes nothing.
-  pub counted : door ≡ 0 → Filled (tableSpace image) (startTable image) (admitted .sweeps) (leastTable image)
+  -- Past the door, from the reset cell on: each sweep that is counted leaves another table than it found; all of them leave the
+  -- least table; and one more leaves it as it is.
+  pub changed : door ≡ 0 → (j : ℕ) → j < admitted .sweeps
+      → sweep (tableSpace image) (sweeps (tableSpace image) j (startTable image)) ≢ sweeps (tableSpace image) j (startTable image)
+  pub filled : door ≡ 0 → sweeps (tableSpace image) (admitted .sweeps) (startTable image) ≡ leastTable image
+  pub still : door ≡ 0 → sweep (tableSpace image) (leastTable image) ≡ leastTable image
   -- That count is the image's own: no map changes it, and nothing that the table held.
   pub alike : door ≡ 0 → admitted .sweeps ≡ sweepsOf image
   -- "a door refusal has count 0"
