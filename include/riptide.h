@@ -151,7 +151,8 @@ uint64_t riptide_admit(const uint8_t *image, size_t image_length, const uint8_t 
 /* Runs a program from a state over a recording, one word for each pair, until the machine stops. Writes the state
  * afterwards and a trace record for each step; later trace bytes stay. RIPTIDE_COUNT is the count of records and
  * RIPTIDE_NUMBER the stop number or 0; with count 0 the number can be a refusal: 11 image, 12 map, 14 state, 15 recording,
- * 16 trace, and then nothing changed. */
+ * 16 trace, and then nothing changed. An admitted program takes every pair from reset on, and the recording's bytes of a
+ * bank in which the map has nothing readable make no difference to it. */
 uint64_t riptide_run(const uint8_t *image, size_t image_length, const uint8_t *map, size_t map_length, uint8_t *state,
                      size_t state_length, const uint8_t *recording, size_t recording_length, uint8_t *trace,
                      size_t trace_length);

@@ -5,13 +5,13 @@ use Prim.Native.Nat.{ℕ, _*_, _^_, _<_}
 use native.Mathlib.Nat.{mod-eq-of-lt}
 use native.Mathlib.Omega.{arith}
 use lib.ListN.{length}
-use borrow.Author.Tests.{eq-eqb}
 use Rattle.state.specs.State.{stateLength, resetBytes, resetNumberOf, resetState}
 use Rattle.emulator.specs.Run.{pairCount}
 use Rattle.admission.specs.Admission.{admitResult}
 use Rattle.admission.proofs.OneAnswer.{found-lowest}
 use Rattle.foretell.proofs.Counting.{counts-foretold}
 use Rattle.guarantee.specs.Demand.{Job, Executes, Flawless, finished, executes, turnedAway}
+use Rattle.guarantee.proofs.ResetSafe.{reset-done}
 use Rattle.guarantee.proofs.Admitted.{admitted-demand}
 use Rattle.answers.specs.Numbers.{runNumber}
 use Rattle.answers.specs.Calls.{admitGives, NumberNames, NumberCounts, Countable, noJob, fewPairs, runGives, Calls, noMore, gavePairs, gaveRefusal, AdmittedCalls}
@@ -41,10 +41,6 @@ module _ {image map table : List ℕ} where
   calls (fewPairs few rest) (executes e more) = gavePairs (gives-pairs few e) (calls rest more)
   calls (fewPairs few rest) (turnedAway t more) =
       gaveRefusal (t .fault) (ap runNumber (t .answer)) (t .state) (t .trace) (calls rest more)
-
-reset-done : (state : List ℕ) → length state ≡ stateLength → (resetNumberOf state ≡ 0) × (resetState state ≡ resetBytes)
-unfolding resetNumberOf resetState
-reset-done state h = (rw (eq-eqb (length state) stateLength h), rw (eq-eqb (length state) stateLength h))
 
 pub admitted-calls : (image map table state : List ℕ) → AdmittedCalls image map table state
 admitted-calls image map table state bytes z long =

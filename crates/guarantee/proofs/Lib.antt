@@ -9,4 +9,7 @@ pub mod StepSafe
 pub mod ResetSafe
 pub mod Demand3
 pub mod Admitted
+pub mod Computed
 pub mod Witness
+pub mod Unseen
+pub mod Banks

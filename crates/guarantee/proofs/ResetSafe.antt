@@ -4,7 +4,9 @@ use mathlib.Core.Bool.{true}
 use mathlib.Core.List.{List}
 use Prim.Native.Nat.{ℕ, _≤_}
 use native.Mathlib.Omega.{arith}
-use Rattle.state.specs.State.{loaded, resetBytes, zeroState}
+use lib.ListN.{length}
+use borrow.Author.Tests.{eq-eqb}
+use Rattle.state.specs.State.{stateLength, loaded, resetBytes, resetNumberOf, resetState, zeroState}
 use Rattle.state.proofs.WellFormed.{reset-formed}
 use Rattle.state.proofs.RoundTrip.{reset-loaded, reset-sized}
 use Rattle.machine.specs.Step.{wordCount}
@@ -49,3 +51,8 @@ reset-safe image table closed some =
 pub reset-loaded-safe : (image table : List ℕ) → Closed (tableSpace image) resetCell table → 1 ≤ wordCount image
     → Safe image table (loaded resetBytes)
 reset-loaded-safe image table closed some = subst (Safe image table) (sym reset-loaded) (reset-safe image table closed some)
+
+-- reset answers 0 for a state of 36 bytes, and makes all of them zero
+pub reset-done : (state : List ℕ) → length state ≡ stateLength → (resetNumberOf state ≡ 0) × (resetState state ≡ resetBytes)
+unfolding resetNumberOf resetState
+reset-done state h = (rw (eq-eqb (length state) stateLength h), rw (eq-eqb (length state) stateLength h))

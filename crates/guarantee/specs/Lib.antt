@@ -1,2 +1,3 @@
 pub mod Safe
 pub mod Demand
+pub mod Unseen

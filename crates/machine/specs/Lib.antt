@@ -1,4 +1,5 @@
 pub mod Shape
 pub mod Step
 pub mod Overflow
+pub mod Unseen
 pub mod Parts

@@ -2,7 +2,8 @@
 use mathlib.Core.Path.{_≡_, refl, ap, _∙_}
 use mathlib.Core.Bool.{Bool, true, false, _||_, or-true}
 use mathlib.Core.List.{List, [], _∷_}
-use Prim.Native.Nat.{ℕ, zero, suc, _+_, _≤_}
+use Prim.Native.Nat.{ℕ, zero, suc, _+_, _*_, _≤_, _<_}
+use native.Mathlib.Decide.{ℕ-discrete}
 use native.Mathlib.Omega.{arith}
 use borrow.Author.Tests.{eq-eqb, ne-eqb}
 use lib.Dec.{eqb}
@@ -11,7 +12,7 @@ use Rattle.choice.specs.Choice.{pick}
 use Rattle.map.specs.declared.Counts.{Counts}
 use Rattle.map.specs.declared.Counts.the-variants.{Sets, Refused}
 use Rattle.map.specs.Map.{mapLength, inSet, readable, writable, listed}
-use Rattle.map.specs.Map.{countBelow, countOf, counted, countsOf, counting}
+use Rattle.map.specs.Map.{countBelow, countOf, NothingReadable, counted, countsOf, counting}
 
 -- a set has at most n of the first n addresses
 pub count-le : (map : List ℕ) (k n : ℕ) → countBelow map k n ≤ n
@@ -22,6 +23,22 @@ count-le map k (suc n) = step (inSet map k n) (count-le map k n)
     step : (b : Bool) → countBelow map k n ≤ n → countBelow map k n + pick b 1 0 ≤ suc n
     step true h = omega arith
     step false h = omega arith
+
+-- where none of the first n addresses is counted, none of them is in the set
+none-counted : (map : List ℕ) (k n : ℕ) → countBelow map k n ≡ 0 → (a : ℕ) → a < n → inSet map k a ≡ false
+unfolding countBelow
+none-counted map k zero h a below = absurd (omega arith)
+none-counted map k (suc n) h a below = by (inSet map k n) refl h (ℕ-discrete a n) (none-counted map k n)
+  where
+    by : (b : Bool) → inSet map k n ≡ b → countBelow map k n + pick b 1 0 ≡ 0 → Dec (a ≡ n)
+        → (countBelow map k n ≡ 0 → (a : ℕ) → a < n → inSet map k a ≡ false) → inSet map k a ≡ false
+    by true e h d before = absurd (omega arith)
+    by false e h (yes same) before = rw same e
+    by false e h (no other) before = before (omega arith) a (omega arith)
+
+-- an empty readable set has no address
+pub nothing-readable : (map : List ℕ) (bank : ℕ) → NothingReadable map bank → (a : ℕ) → a < 256 → readable map bank a ≡ false
+nothing-readable map bank = none-counted map (2 * bank) 256
 
 -- an address that may be read or written is listed
 pub readable-listed : (map : List ℕ) (bank a : ℕ) → readable map bank a ≡ true → listed map bank a ≡ true

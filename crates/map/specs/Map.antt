@@ -2,6 +2,7 @@
 -- Bank 0 is left, 1 is right.
 use mathlib.Core.Bool.{Bool, _||_}
 use mathlib.Core.List.{List, [], _∷_}
+use mathlib.Core.Path.{_≡_}
 use Prim.Native.Nat.{ℕ, zero, suc, _+_, _*_, _/_, _%_, _^_}
 use lib.Dec.{eqb}
 use lib.ListN.{length, getD}
@@ -36,6 +37,10 @@ countBelow map k (suc n) = countBelow map k n + pick (inSet map k n) 1 0
 -- how many addresses set k has
 abbrev pub countOf : List ℕ → ℕ → ℕ
 countOf map k = countBelow map k 256
+
+-- "whose right readable set is empty" (2026-08 of document 02), of a bank
+abbrev pub NothingReadable : List ℕ → ℕ → Type 0
+NothingReadable map bank = countOf map (2 * bank) ≡ 0
 
 -- "counting a map's sets" puts question 12, then gives how many addresses each set has
 unfoldable pub counted : List ℕ → Counts

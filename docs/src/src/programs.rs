@@ -124,6 +124,12 @@ pub fn with_return_bytes(random: &mut Random, words: &[u16]) -> Vec<u16> {
     words.iter().map(one).collect()
 }
 
+/// The same words, each that reads this bank reading the other one instead.
+pub fn reading_elsewhere(bank: u16, words: &[u16]) -> Vec<u16> {
+    let reads = |word: u16| word < 0xc000 && word / 2048 % 4 == 2 + bank;
+    words.iter().map(|&word| if reads(word) { word ^ 0x0800 } else { word }).collect()
+}
+
 /// Where a random program places its blocks; block 0 is the main one.
 struct Layout {
     starts: Vec<usize>,

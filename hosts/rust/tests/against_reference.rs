@@ -8,7 +8,7 @@ use riptide_reference::cases::sweeps;
 use riptide_reference::digest::Random;
 use riptide_reference::listing;
 use riptide_reference::programs::{bytes_of, damage, random_map, random_program, random_state, random_words};
-use riptide_reference::programs::{sum_words, with_return_bytes};
+use riptide_reference::programs::{reading_elsewhere, sum_words, with_return_bytes};
 use riptide_reference::run as reference;
 use riptide_reference::table::{admit as reference_admit, findings, foretell as reference_foretell, Verdict};
 use riptide_reference::word::{decode, encode, is_bank, Word};
@@ -346,6 +346,43 @@ fn images_listed_or_refused() {
         numbers[compare_pages(&image, &page) as usize] += 1;
     }
     assert!(numbers[0] > 0 && numbers[11] > 0 && numbers[41] > 0, "{numbers:?}");
+}
+
+/// A bank with an empty readable set may hold any bytes: answers, states and traces are the same, whatever the traces held
+/// before, run by run from reset.
+#[test]
+fn a_bank_that_is_not_granted_is_not_seen() {
+    let mut random = Random(0x2608);
+    let (mut admitted, mut steps) = (0, 0);
+    for case in 0..cases() / 4 {
+        let bank = case % 2;
+        let image = bytes_of(&reading_elsewhere(bank as u16, &random_program(&mut random, 6, 8)));
+        let mut map = random_map(&mut random);
+        map[64 * bank..64 * bank + 32].fill(0);
+        assert_eq!(count_sets(&map).map(|sets| sets[2 * bank]), Ok(0));
+        if admit(&image, &map, &mut vec![0; table_length(&image)]).answer != AdmitAnswer::Admitted {
+            continue;
+        }
+        admitted += 1;
+        let (mut state, mut its) = ([0; 36], [0; 36]);
+        for _ in 0..3 {
+            let length = random.below(100);
+            let recording = random_bytes(&mut random, length);
+            let mut other = recording.clone();
+            other.iter_mut().skip(bank).step_by(2).for_each(|byte| *byte = random.below(256) as u8);
+            let mut trace = random_bytes(&mut random, trace_length(&recording));
+            let mut its_trace = random_bytes(&mut random, trace_length(&recording));
+            let answer = run(&image, &map, &mut state, &recording, &mut trace);
+            assert_eq!(run(&image, &map, &mut its, &other, &mut its_trace), answer, "case {case}");
+            assert_eq!(state, its, "state of case {case}");
+            if let RunAnswer::Ended { count, .. } = answer {
+                steps += count;
+                assert_eq!(trace, its_trace, "trace of case {case}");
+            }
+        }
+    }
+    assert!(admitted > cases() / 40, "{admitted}");
+    println!("{admitted} programs, {steps} steps, twice");
 }
 
 #[test]
