@@ -43,7 +43,7 @@ fn print_digest(name: &[u8], bytes: &[u8]) {
 // Runs, and prints what the run gives. The lent trace is a5 throughout before.
 fn report(image: &[u8], map: &[u8], state: &mut [u8], recording: &[u8], trace: &mut [u8]) {
     digest::repeat(165, 165, trace);
-    print_answer(emulator::run(image, map, state, recording, trace));
+    print_answer(running::run(image, map, state, recording, trace));
     io::write_all(1, b" state_after=");
     print_bytes(state);
     print_digest(b" state_digest=", state);

@@ -139,7 +139,7 @@ fn value(title: &[u8], word: [u8; 2], given: &[u8], pair: [u8; 2], asked: &[u8])
     let mut state = [0u8; 36];
     set(&mut state, given);
     let mut trace = [0u8; 8];
-    let answer = emulator::run(&image, &map, &mut state, &pair, &mut trace);
+    let answer = running::run(&image, &map, &mut state, &pair, &mut trace);
     let RunAnswer::Ended { count, stop: _ } = answer else {
         io::write_all(1, b" refused\n");
         return;

@@ -1,20 +1,18 @@
-// The run: a step for each pair of a recording, with its trace.
+// The steps of a run: one for each pair of a recording, with its trace record.
 ghost use mathlib.Core.Path.{_≡_};
 ghost use mathlib.Core.List.{[], _∷_};
 ghost use Prim.Native.Nat.{_≤_, _<_};
 ghost use lib.ListN.{length};
-ghost use Rattle.state.specs.State.{stateLength};
 ghost use Rattle.machine.specs.Parts.{whole};
-ghost use Rattle.emulator.specs.Run.{ranOver, writtenOver, imageFits, traceFits, yielded, ended, runResult};
-ghost use Rattle.emulator.specs.Parts.{halfLength, eventBytes, addressBytes, EventFits, sequencerOf, lastState, ranTo, laidOver, Accepted};
+ghost use Rattle.emulator.specs.Run.{ranOver, writtenOver, imageFits};
+ghost use Rattle.emulator.specs.Parts.{halfLength, eventBytes, addressBytes, EventFits, sequencerOf, ranTo, laidOver, Accepted};
 use machine::Effect;
 use machine::Sequencer;
-use state::State;
 
 // A recording has a left and a right byte for each step, a trace a record of eight: what the word does, and where.
-const PAIR: usize = 2;
+pub const PAIR: usize = 2;
 
-const RECORD: usize = 8;
+pub const RECORD: usize = 8;
 
 const HALF: usize = 4;
 
@@ -25,10 +23,10 @@ pub enum RunAnswer {
 }
 
 // What the steps of a run leave: the sequencer, how many steps there were, the stop number or 0.
-struct Last {
-    q: Sequencer,
-    count: usize,
-    stop: usize,
+pub struct Last {
+    pub q: Sequencer,
+    pub count: usize,
+    pub stop: usize,
 }
 
 // The sequencer that a step leaves.
@@ -73,7 +71,7 @@ fn write_addresses(part: &mut [u8], q: Sequencer)
 }
 
 // Steps over the pairs of the recording until the machine stops.
-fn steps(
+pub fn steps(
     image: &[u8],
     map: &[u8],
     recording: &[u8],
@@ -109,109 +107,9 @@ fn steps(
     Last { q, count, stop: 0 }
 }
 
-// The state that the steps of a run leave.
-fn last_state(last: Last, values: [u8; 11], latches: [u8; 2], returns: [u16; 8]) -> State
-    ensures { λ r. ⌜ r ≡ lastState last values latches returns ⌝ }
-{
-    let q = last.q;
-    State {
-        pc: q.pc,
-        flag: q.flag,
-        pending: q.pending,
-        values,
-        latches,
-        depth: q.depth,
-        returns,
-        stop: last.stop,
-    }
-}
-
-// The steps of a run from a state that is not stopped, and the state stored.
-fn run_from(
-    image: &[u8],
-    map: &[u8],
-    s: State,
-    state: &mut [u8],
-    recording: &[u8],
-    trace: &mut [u8],
-) -> RunAnswer
-    requires { ⌜ Accepted (now image) (now map) (now recording) (now trace) s × (s .stop ≡ 0) × (length (now state) ≡ stateLength) ⌝ }
-    ensures { λ r. ⌜ yielded r (now (state .exit)) (now (trace .exit)) ≡ ended (now (trace .entry)) (ranOver (now (image .entry)) (now (map .entry)) (now (recording .entry)) s) ⌝ }
-{
-    let start = Sequencer {
-        pc: s.pc,
-        flag: s.flag,
-        pending: s.pending,
-        depth: s.depth,
-    };
-    let mut values = s.values;
-    let mut latches = s.latches;
-    let mut returns = s.returns;
-    let last = steps(
-        image,
-        map,
-        recording,
-        start,
-        &mut values,
-        &mut latches,
-        &mut returns,
-        trace,
-    );
-    let after = last_state(last, values, latches, returns);
-    state::store(after, state);
-    RunAnswer::Ended {
-        count: last.count,
-        stop: last.stop,
-    }
-}
-
 // Is the image's length even, 2 to 16,384 bytes?
 pub fn image_fits(image: &[u8]) -> bool
     ensures { λ r. ⌜ r ≡ imageFits (now (image .entry)) ⌝ }
 {
     (image.len() % 2 == 0) & ((2 <= image.len()) & (image.len() <= 16384))
-}
-
-// Has the trace a record for each pair? Four times a recording's length may be no usize.
-fn trace_fits(recording: &[u8], trace: &[u8]) -> bool
-    ensures { λ r. ⌜ r ≡ traceFits (now (recording .entry)) (now (trace .entry)) ⌝ }
-{
-    (trace.len() % RECORD == 0) & (trace.len() / RECORD == recording.len() / PAIR)
-}
-
-// Runs an image under a map, from the state's 36 bytes, over the pairs of a recording, and writes their trace.
-// Yields the count of trace records and the stop number or 0; or a refusal, 11, 12, 14, 15 or 16, and then no byte changes.
-pub fn run(
-    image: &[u8],
-    map: &[u8],
-    state: &mut [u8],
-    recording: &[u8],
-    trace: &mut [u8],
-) -> RunAnswer
-    ensures { λ r. ⌜ yielded r (now (state .exit)) (now (trace .exit)) ≡ runResult (now (image .entry)) (now (map .entry)) (now (state .entry)) (now (recording .entry)) (now (trace .entry)) ⌝ }
-{
-    if !image_fits(image) {
-        return RunAnswer::Refused { number: 11 };
-    }
-    if map.len() != map::LENGTH {
-        return RunAnswer::Refused { number: 12 };
-    }
-    if state.len() != state::LENGTH {
-        return RunAnswer::Refused { number: 14 };
-    }
-    let s = state::load(state);
-    if !state::well_formed(s) {
-        return RunAnswer::Refused { number: 14 };
-    }
-    if recording.len() % PAIR != 0 {
-        return RunAnswer::Refused { number: 15 };
-    }
-    if !trace_fits(recording, trace) {
-        return RunAnswer::Refused { number: 16 };
-    }
-    let stop = s.stop;
-    if stop != 0 {
-        return RunAnswer::Ended { count: 0, stop };
-    }
-    run_from(image, map, s, state, recording, trace)
 }

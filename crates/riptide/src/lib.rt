@@ -87,7 +87,7 @@ pub extern "C" fn riptide_run(
 ) -> u64
     ensures { λ r. ⌜ (r ≡ runNumber (runResult (now (image .entry)) (now (map .entry)) (now (state .entry)) (now (recording .entry)) (now (trace .entry)) .answer)) × (now (state .exit) ≡ runResult (now (image .entry)) (now (map .entry)) (now (state .entry)) (now (recording .entry)) (now (trace .entry)) .state) × (now (trace .exit) ≡ runResult (now (image .entry)) (now (map .entry)) (now (state .entry)) (now (recording .entry)) (now (trace .entry)) .trace) ⌝ }
 {
-    answers::run_number(emulator::run(image, map, state, recording, trace))
+    answers::run_number(running::run(image, map, state, recording, trace))
 }
 
 // 0 and the page; or the refusal 11 or 41, and the bytes as they were.

@@ -1,8 +1,8 @@
-// The machine's state by value, and its 36 bytes: loaded, stored, tested, reset.
+// The machine's state by value, and its 36 bytes: loaded, tested, reset.
 ghost use mathlib.Core.Path.{_≡_};
 ghost use Prim.Native.Nat.{_<_, _+_, _*_};
 ghost use lib.ListN.{length};
-ghost use Rattle.state.specs.State.{stateLength, stackPlaces, bytesFrom, numbersFrom, loaded, stored, flagFits, placeFits, stackFits, isStop, wellFormed, resetAnswerOf, resetNumber, resetNumberOf, resetState};
+ghost use Rattle.state.specs.State.{stateLength, stackPlaces, bytesFrom, numbersFrom, loaded, flagFits, placeFits, stackFits, isStop, wellFormed, resetAnswerOf, resetNumber, resetNumberOf, resetState};
 
 // Bytes of a state, and places of its call stack.
 pub const LENGTH: usize = 36;
@@ -145,61 +145,6 @@ pub fn well_formed(s: State) -> bool
     let returns = s.returns;
     (flag_fits(s.flag, s.pc, s.pending) & (values[OVERFLOW] < 2))
         & (((s.depth <= PLACES) & stack_fits(s.depth, returns)) & is_stop(s.stop))
-}
-
-// The state's 36 bytes.
-fn bytes_of(s: State) -> [u8; LENGTH]
-    ensures { λ r. ⌜ r ≡ stored s ⌝ }
-{
-    let v = s.values;
-    let l = s.latches;
-    let r = s.returns;
-    [
-        (s.pc % 256) as u8,
-        (s.pc / 256 % 256) as u8,
-        (s.flag % 256) as u8,
-        (s.pending % 256) as u8,
-        (s.pending / 256 % 256) as u8,
-        v[0],
-        v[1],
-        v[2],
-        v[3],
-        v[4],
-        v[5],
-        v[6],
-        v[7],
-        v[8],
-        v[9],
-        v[10],
-        l[0],
-        l[1],
-        (s.depth % 256) as u8,
-        (r[0] % 256) as u8,
-        (r[0] / 256 % 256) as u8,
-        (r[1] % 256) as u8,
-        (r[1] / 256 % 256) as u8,
-        (r[2] % 256) as u8,
-        (r[2] / 256 % 256) as u8,
-        (r[3] % 256) as u8,
-        (r[3] / 256 % 256) as u8,
-        (r[4] % 256) as u8,
-        (r[4] / 256 % 256) as u8,
-        (r[5] % 256) as u8,
-        (r[5] / 256 % 256) as u8,
-        (r[6] % 256) as u8,
-        (r[6] / 256 % 256) as u8,
-        (r[7] % 256) as u8,
-        (r[7] / 256 % 256) as u8,
-        (s.stop % 256) as u8,
-    ]
-}
-
-pub fn store(s: State, bytes: &mut [u8])
-    requires { ⌜ length (now bytes) ≡ stateLength ⌝ }
-    ensures { λ _. ⌜ now (bytes .exit) ≡ stored s ⌝ }
-{
-    let b = bytes_of(s);
-    bytes::copy(&b, bytes);
 }
 
 // Makes all 36 bytes zero; a slice of another length is refused and stays as it is.

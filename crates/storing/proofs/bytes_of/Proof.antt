@@ -1,10 +1,10 @@
--- `state::bytes_of` meets its contract. Assumes nothing.
+-- `storing::bytes_of` meets its contract. Assumes nothing.
 use mathlib.Core.Path.{refl}
 use Rattle.state.specs.State.{stored}
 use Rattle.state.proofs.Laws.{byte-fits}
 use lib.Dec.{lit<}
-use Rattle.state.proofs.bytes_of.Statement.{statement}
-use Rattle.state.proofs.bytes_of.Tie as tie
+use Rattle.storing.proofs.bytes_of.Statement.{statement}
+use Rattle.storing.proofs.bytes_of.Tie as tie
 
 returns : tie.Need-returns
 unfolding stored

@@ -1,10 +1,10 @@
--- `state::store` meets its contract. Assumes nothing.
+-- `storing::store` meets its contract. Assumes nothing.
 use mathlib.Core.Path.{_∙_, sym, ap}
 use lib.ListN.{length}
 use Rattle.state.proofs.Laws.{copied, stored-length}
 use borrow.Author.Needs.{needs}
-use Rattle.state.proofs.store.Statement.{statement}
-use Rattle.state.proofs.store.Tie as tie
+use Rattle.storing.proofs.store.Statement.{statement}
+use Rattle.storing.proofs.store.Tie as tie
 
 returns : tie.Need-returns
 returns c =

@@ -1,14 +1,14 @@
--- `emulator::run_from` meets its contract. Assumes nothing.
+-- `running::run_from` meets its contract. Assumes nothing.
 use mathlib.Core.Path.{ap, sym, subst, _∙_}
 use denote.Ref.{now}
 use Rattle.state.specs.declared.State.{State}
 use Rattle.state.specs.State.{stored}
 use Rattle.emulator.specs.Run.{ranOver}
 use Rattle.emulator.specs.Parts.{laidOver, Accepted}
 use Rattle.emulator.proofs.Door.{running, finished}
 use borrow.Author.Needs.{needs}
-use Rattle.emulator.proofs.run_from.Statement.{statement}
-use Rattle.emulator.proofs.run_from.Tie as tie
+use Rattle.running.proofs.run_from.Statement.{statement}
+use Rattle.running.proofs.run_from.Tie as tie
 
 steps-requires : tie.Need-steps-requires
 steps-requires c κs =

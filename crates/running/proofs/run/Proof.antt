@@ -1,16 +1,16 @@
--- `emulator::run` meets its contract: a law for each way out. Assumes nothing.
+-- `running::run` meets its contract: a law for each way out. Assumes nothing.
 use mathlib.Core.Path.{ap, sym, subst, _∙_}
 use denote.Ref.{now}
 use borrow.Author.Tests.{not-true, not-false}
 use Rattle.state.specs.declared.State.{State}
 use Rattle.state.specs.State.{wellFormed}
 use Rattle.emulator.specs.declared.RunAnswer.the-variants.{Ended}
 use Rattle.emulator.specs.Run.{ranOver, yielded, ended}
 use Rattle.emulator.specs.Parts.{Accepted}
 use Rattle.emulator.proofs.Door.{wrong-length, not-formed, fits, refused-11, refused-12, refused-14, refused-15, refused-16, let-in, came-stopped, let-in-sound}
 use borrow.Author.Needs.{needs}
-use Rattle.emulator.proofs.run.Statement.{statement}
-use Rattle.emulator.proofs.run.Tie as tie
+use Rattle.running.proofs.run.Statement.{statement}
+use Rattle.running.proofs.run.Tie as tie
 
 returns : tie.Need-returns
 returns c =
