@@ -6,11 +6,11 @@ use Prim.Native.Nat.{ℕ}
 use types.Run.{OneOf, miss}
 use denote.Enum.Declared.{tagOf}
 use Rattle.choice.specs.Choice.{pick}
-use Rattle.processor.proofs.form.Form.{the-type}
-use Rattle.processor.specs.declared.form.Form.{Form}
-use Rattle.processor.specs.declared.form.Form.the-variants.{Act, Jump, Branch, Defer, Call, Return, Invalid}
+use Rattle.forms.proofs.Form.{the-type}
+use Rattle.forms.specs.declared.Form.{Form}
+use Rattle.forms.specs.declared.Form.the-variants.{Act, Jump, Branch, Defer, Call, Return, Invalid}
 use Rattle.machine.specs.Shape.{jump, branch, defer, call, return, Shape, act, go, invalid}
-use Rattle.processor.specs.Forms.{shapeIs}
+use Rattle.forms.specs.Forms.{shapeIs}
 use Rattle.transfer.specs.Passes.{directing, isDefer, isCall, isReturn, some, wordsAt}
 
 -- XEC is case 3, CALL 4, RET 5

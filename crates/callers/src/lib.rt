@@ -5,7 +5,7 @@ ghost use Prim.Native.Nat.{_+_, _%_, _≤_, _<_};
 ghost use Rattle.choice.specs.Choice.{pick};
 ghost use Rattle.machine.specs.Shape.{sourceOf, go, defer};
 ghost use Rattle.machine.specs.Parts.{IsPage};
-ghost use Rattle.processor.specs.Forms.{shapeIs, FormFits};
+ghost use Rattle.forms.specs.Forms.{shapeIs, FormFits};
 ghost use Rattle.machine.specs.Step.{wordCount, shapeAt};
 ghost use Rattle.facts.specs.Facts.{spanOf};
 ghost use Rattle.cells.specs.Cells.{Bounded};
@@ -13,7 +13,7 @@ ghost use Rattle.transfer.specs.Passes.{gives, pageAddress, canBeExecuted, isCa
 ghost use Rattle.callers.specs.Callers.{spanIs, InImage, Held};
 use control::LONG_PAGE;
 use control::SHORT_PAGE;
-use processor::form::Form;
+use forms::Form;
 
 // The values that a source may have: count of them from low on.
 pub struct Values {

@@ -3,9 +3,9 @@ use mathlib.Core.Path.{_≡_, subst⁻¹}
 use mathlib.Core.Bool.{false, false≢true}
 use mathlib.Core.List.{List}
 use Prim.Native.Nat.{ℕ}
-use Rattle.processor.specs.declared.form.Form.{Form}
+use Rattle.forms.specs.declared.Form.{Form}
 use Rattle.machine.specs.Shape.{Shape, act, go, invalid, jump, branch, defer, call, return}
-use Rattle.processor.specs.Forms.{shapeIs}
+use Rattle.forms.specs.Forms.{shapeIs}
 use Rattle.transfer.specs.Passes.{isDefer}
 use Rattle.transfer.specs.Findings.{wordFindings, deferFindings}
 use Rattle.findings.specs.Findings.{Tells}

@@ -9,7 +9,7 @@ ghost use Rattle.map.specs.Map.{mapLength};
 ghost use Rattle.machine.specs.Shape.{sourceOf, targetOf, register, constant, go, branch, defer, call, return};
 ghost use Rattle.machine.specs.Step.{wordCount};
 ghost use Rattle.machine.specs.Parts.{IsPage, deliverySource, shapeOfDelivery};
-ghost use Rattle.processor.specs.Forms.{shapeIs, FormFits};
+ghost use Rattle.forms.specs.Forms.{shapeIs, FormFits};
 ghost use Rattle.facts.specs.Facts.{unknown, resultFact};
 ghost use Rattle.cells.specs.Cells.{Bounded};
 ghost use Rattle.callers.specs.Callers.{InImage, Held};
@@ -17,9 +17,9 @@ ghost use Rattle.transfer.specs.Passes.{isDefer, isCallSite, pointAt};
 ghost use Rattle.transfer.specs.Findings.{readQuestions, targetQuestions, allBelow, wordFindings, executedFindings, deferFindings, findingAt};
 ghost use Rattle.findings.specs.Findings.{Tells};
 use facts::UNKNOWN;
+use forms::Form;
 use machine::act::Delivery;
 use processor::Fetched;
-use processor::form::Form;
 
 fn wide(x: u16) -> usize
     ensures { λ r. ⌜ r ≡ x ⌝ }
@@ -249,7 +249,7 @@ fn executed_finding(
     let Fetched::Valid(word) = processor::fetched_of(processor::word_at(image, a)) else {
         return 22;
     };
-    let form = processor::form::form_of(word);
+    let form = forms::form_of(word);
     if is_xec(form) {
         return 29;
     }
@@ -335,7 +335,7 @@ pub fn cell_finding(image: &[u8], map: &[u8], table: &[u8], depth: usize, pc: us
     let Fetched::Valid(word) = processor::fetched_of(processor::word_at(image, pc)) else {
         return 22;
     };
-    let form = processor::form::form_of(word);
+    let form = forms::form_of(word);
     let back = returns_inside(image, table, below(depth));
     let f = word_finding(image, map, depth, pc, facts, back, form);
     if f != 0 {

@@ -1,5 +1,5 @@
--- The form of a word: what is told of a word's or a form's case is told of the word or form that equals it.
-use mathlib.Core.Path.{_≡_, ap, sym, subst, subst⁻¹, _∙_}
+-- The form of a word that is read: what is told of a form's case is told of the form that equals it.
+use mathlib.Core.Path.{_≡_, ap, sym, subst⁻¹, _∙_}
 use mathlib.Core.List.{List}
 use Prim.Native.Nat.{ℕ, _+_, _*_, _<_}
 use native.Mathlib.Omega.{arith}
@@ -7,16 +7,10 @@ use Rattle.word.specs.declared.Word.{Word}
 use Rattle.word.specs.Word.{InRange, decoded}
 use Rattle.word.proofs.Laws.{decoded-in-range}
 use Rattle.state.specs.declared.State.{State}
-use Rattle.processor.specs.declared.form.Form.{Form}
+use Rattle.forms.specs.declared.Form.{Form}
 use Rattle.machine.specs.Shape.{Shape, shapeOf}
 use Rattle.machine.specs.Step.{Outcome, wordAt, shapeAt, wordStep}
-use Rattle.processor.specs.Forms.{shapeIs, FormFits}
-
-abbrev Formed : Word → Form → Type 0
-Formed w f = (shapeIs f ≡ shapeOf w) × FormFits f
-
-pub formed : {w v : Word} {r f : Form} → w ≡ v → r ≡ f → InRange w → (InRange v → Formed v f) → Formed w r
-formed {v = v} {r = r} e q range told = subst⁻¹ (λ (x : Word). Formed x r) e (subst⁻¹ (Formed v) q (told (subst InRange e range)))
+use Rattle.forms.specs.Forms.{shapeIs}
 
 pub retold : (map bus : List ℕ) (s : State) {f g : Form} {o : Outcome} → f ≡ g → o ≡ wordStep map (shapeIs g) bus s → o ≡ wordStep map (shapeIs f) bus s
 retold map bus s e h = h ∙ sym (ap (λ (x : Form). wordStep map (shapeIs x) bus s) e)

@@ -1,14 +1,13 @@
-// The processor: a decoded word brought into its form, and one step over a fetched word.
-pub mod form;
-
+// The processor: the word at an address and its form, and one step over a fetched word.
 ghost use mathlib.Core.Path.{_≡_};
 ghost use Prim.Native.Nat.{_<_};
 ghost use mathlib.Core.List.{[], _∷_};
 ghost use Rattle.word.specs.Word.{InRange, decoded};
 ghost use Rattle.machine.specs.Step.{wordCount, wordAt, shapeAt, wordStep, stepFrom, stepped};
 ghost use Rattle.machine.specs.Parts.{whole, fetchOf, outcome, Ready};
-ghost use Rattle.processor.specs.Forms.{shapeIs, FormFits, Fetches, Runs};
-use crate::form::Form;
+ghost use Rattle.forms.specs.Forms.{shapeIs, FormFits};
+ghost use Rattle.processor.specs.Fetching.{Fetches, Runs};
+use forms::Form;
 use machine::Effect;
 use machine::Sequencer;
 use word::Word;
@@ -55,7 +54,7 @@ pub fn form_at(image: &[u8], at: usize) -> Form
     requires { ⌜ at < wordCount (now image) ⌝ }
     ensures { λ r. ⌜ (shapeIs r ≡ shapeAt (now (image .entry)) at) × FormFits r ⌝ }
 {
-    form::form_of(word_at(image, at))
+    forms::form_of(word_at(image, at))
 }
 
 // A decoded word that is valid, or none.
@@ -105,7 +104,7 @@ pub fn step(
         return machine::stop(q, 22);
     };
     execute(
-        form::form_of(word),
+        forms::form_of(word),
         map,
         left,
         right,

@@ -9,10 +9,10 @@ use lib.ListN.{getD}
 use borrow.Author.Tests.{lt-ltb, le-ltb}
 use Rattle.choice.specs.Choice.{pick}
 use Rattle.state.specs.State.{stackPlaces}
-use Rattle.processor.specs.declared.form.Form.{Form}
+use Rattle.forms.specs.declared.Form.{Form}
 use Rattle.machine.specs.Shape.{Source, Target, register, branch, call, act, go, sourceOf, slotOf}
 use Rattle.machine.specs.Step.{wordCount, inPage}
-use Rattle.processor.specs.Forms.{shapeIs}
+use Rattle.forms.specs.Forms.{shapeIs}
 use Rattle.flow.specs.Flow.{Pass}
 use Rattle.facts.specs.declared.Cell.{Cell}
 use Rattle.facts.specs.Facts.{unknown, sourceFact, resultFact, withCarryFact, putFact, Span, spanOf, mayBeZero, mayBeOther}

@@ -8,7 +8,7 @@ ghost use Rattle.choice.specs.Choice.{pick};
 ghost use Rattle.machine.specs.Shape.{sourceOf, register, go, branch, defer, call};
 ghost use Rattle.machine.specs.Step.{wordCount, shapeAt};
 ghost use Rattle.machine.specs.Parts.{IsPage, shapeOfDelivery};
-ghost use Rattle.processor.specs.Forms.{shapeIs, FormFits};
+ghost use Rattle.forms.specs.Forms.{shapeIs, FormFits};
 ghost use Rattle.flow.specs.Flow.{turn, turnChanges, sweep, sweepChanges};
 ghost use Rattle.cells.specs.Cells.{Bounded};
 ghost use Rattle.callers.specs.Callers.{spanIs, InImage};
@@ -16,8 +16,8 @@ ghost use Rattle.transfer.specs.Passes.{pointAt, toward, gives, isCallSite, pag
 ghost use Rattle.sweeps.specs.Sweeps.{Laid, Passed};
 use callers::Values;
 use facts::Cell;
+use forms::Form;
 use machine::act::Delivery;
-use processor::form::Form;
 
 // Passes facts on to an address at a depth; an address at or above N gets nothing. Says whether a cell changed, as all
 // that follow do.

@@ -4,7 +4,8 @@ use native.Mathlib.Omega.{arith}
 use denote.Ref.{now}
 use Rattle.word.specs.Word.{InRange}
 use Rattle.machine.specs.Step.{wordCount}
-use Rattle.processor.specs.Forms.{shapeIs, Fetches}
+use Rattle.forms.specs.Forms.{shapeIs}
+use Rattle.processor.specs.Fetching.{Fetches}
 use Rattle.machine.proofs.Fetching.{no-shape}
 use Rattle.processor.proofs.Forming.{read-shape}
 use Rattle.callers.proofs.Points.{point-small, point-room}

@@ -1,7 +1,7 @@
 -- `findings::defer_finding` meets its contract. Assumes nothing.
 use mathlib.Core.Path.{subst}
 use denote.Ref.{now}
-use Rattle.processor.specs.Forms.{shapeIs, FormFits}
+use Rattle.forms.specs.Forms.{shapeIs, FormFits}
 use Rattle.callers.proofs.Words.{is-no-defer}
 use Rattle.findings.proofs.Words.{retold-defer, no-defer}
 use borrow.Author.Needs.{needs}

@@ -2,7 +2,8 @@
 use mathlib.Core.Path.{_∙_, sym, subst}
 use denote.Ref.{now}
 use Rattle.word.specs.Word.{InRange}
-use Rattle.processor.specs.Forms.{shapeIs, Fetches}
+use Rattle.forms.specs.Forms.{shapeIs}
+use Rattle.processor.specs.Fetching.{Fetches}
 use Rattle.machine.proofs.Fetching.{no-shape}
 use Rattle.processor.proofs.Forming.{read-shape}
 use Rattle.findings.proofs.Passing.{executed-outside, executed-invalid, executed-defer, executed-word}

@@ -5,7 +5,7 @@ use mathlib.Core.List.{[]}
 use native.Mathlib.Omega.{arith}
 use denote.Ref.{now}
 use Rattle.machine.specs.Shape.{sourceOf}
-use Rattle.processor.specs.Forms.{FormFits}
+use Rattle.forms.specs.Forms.{FormFits}
 use Rattle.findings.proofs.Asking.{read-only}
 use Rattle.findings.proofs.Telling.{tells-no}
 use Rattle.findings.proofs.Words.{retold}

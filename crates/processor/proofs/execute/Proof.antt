@@ -5,7 +5,7 @@ use denote.Ref.{now}
 use Rattle.machine.specs.declared.Effect.{Effect}
 use Rattle.machine.specs.Step.{goState}
 use Rattle.machine.specs.Parts.{outcome}
-use Rattle.processor.specs.Forms.{FormFits}
+use Rattle.forms.specs.Forms.{FormFits}
 use Rattle.processor.proofs.Forming.{retold}
 use borrow.Author.Needs.{needs}
 use Rattle.processor.proofs.execute.Statement.{statement}

@@ -7,7 +7,8 @@ use mathlib.Core.List.{[], _∷_}
 use denote.Ref.{now}
 use Rattle.machine.specs.Step.{stepFrom}
 use Rattle.machine.specs.Parts.{whole, fetchOf}
-use Rattle.processor.specs.Forms.{shapeIs, Fetches}
+use Rattle.forms.specs.Forms.{shapeIs}
+use Rattle.processor.specs.Fetching.{Fetches}
 use Rattle.machine.proofs.Fetching.{pc-near, no-shape, outside, inside, nothing}
 use Rattle.processor.proofs.Forming.{read-in-range, read-shape}
 use borrow.Author.Needs.{needs}

@@ -1,7 +1,7 @@
 -- `sweeps::pass_returns` meets its contract. Assumes nothing.
 use denote.Ref.{now}
 use borrow.Author.Needs.{needs}
-use Rattle.processor.specs.Forms.{shapeIs}
+use Rattle.forms.specs.Forms.{shapeIs}
 use Rattle.transfer.specs.Passes.{isReturn, some, wordsAt}
 use Rattle.sweeps.proofs.Returning.{back-at-zero, back-without, back-passed}
 use Rattle.sweeps.proofs.pass_returns.Statement.{statement}

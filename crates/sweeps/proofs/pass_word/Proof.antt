@@ -2,7 +2,7 @@
 use mathlib.Core.Path.{subst}
 use denote.Ref.{now}
 use borrow.Author.Needs.{needs}
-use Rattle.processor.specs.Forms.{FormFits}
+use Rattle.forms.specs.Forms.{FormFits}
 use Rattle.transfer.specs.Passes.{wordPasses}
 use Rattle.sweeps.proofs.Passing.{passed-none}
 use Rattle.sweeps.proofs.Going.{retold}

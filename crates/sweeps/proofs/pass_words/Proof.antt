@@ -2,9 +2,9 @@
 use mathlib.Core.Path.{_∙_, ap, subst}
 use denote.Ref.{now}
 use borrow.Author.Needs.{needs}
-use Rattle.processor.specs.declared.form.Form.{Form}
+use Rattle.forms.specs.declared.Form.{Form}
 use Rattle.machine.specs.Step.{wordCount}
-use Rattle.processor.specs.Forms.{shapeIs, FormFits}
+use Rattle.forms.specs.Forms.{shapeIs, FormFits}
 use Rattle.transfer.specs.Passes.{wordsAt, allPasses}
 use Rattle.callers.proofs.Words.{itself}
 use Rattle.sweeps.proofs.Lists.{all-one}

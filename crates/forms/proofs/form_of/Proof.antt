@@ -1,12 +1,12 @@
--- `processor::form::form_of` meets its contract: each kind of word has the shape that its form stands for. Assumes nothing.
+-- `forms::form_of` meets its contract: each kind of word has the shape that its form stands for. Assumes nothing.
 use mathlib.Core.Path.{refl}
 use native.Mathlib.Omega.{arith}
-use Rattle.processor.specs.declared.form.Form.the-variants.{Jump, Call, Return, Invalid}
+use Rattle.forms.specs.declared.Form.the-variants.{Jump, Call, Return, Invalid}
 use Rattle.machine.specs.Shape.{shapeOf}
-use Rattle.processor.proofs.Forming.{formed}
+use Rattle.forms.proofs.Forming.{formed}
 use borrow.Author.Needs.{needs}
-use Rattle.processor.proofs.form.form_of.Statement.{statement}
-use Rattle.processor.proofs.form.form_of.Tie as tie
+use Rattle.forms.proofs.form_of.Statement.{statement}
+use Rattle.forms.proofs.form_of.Tie as tie
 
 pub form-of-spec : {M : Type 1} → statement M
 unfolding shapeOf

@@ -4,7 +4,7 @@ ghost use mathlib.Core.Path.{_≡_};
 ghost use Rattle.word.specs.Word.{InRange};
 ghost use Rattle.machine.specs.Shape.{shapeOf};
 ghost use Rattle.machine.specs.Parts.{operationOf, transmissionOf};
-ghost use Rattle.processor.specs.Forms.{shapeIs, FormFits};
+ghost use Rattle.forms.specs.Forms.{shapeIs, FormFits};
 use control::LONG_PAGE;
 use control::SHORT_PAGE;
 use machine::act::Delivery;
