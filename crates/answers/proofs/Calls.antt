@@ -4,8 +4,6 @@ use mathlib.Core.Path.{_≡_, sym, ap, _∙_, subst⁻¹}
 use Prim.Native.Nat.{ℕ, _*_, _^_, _<_}
 use native.Mathlib.Nat.{mod-eq-of-lt}
 use native.Mathlib.Omega.{arith}
-use lib.ListN.{length}
-use Rattle.state.specs.State.{stateLength, resetBytes, resetNumberOf, resetState}
 use Rattle.emulator.specs.Run.{pairCount}
 use Rattle.admission.specs.Admission.{admitResult}
 use Rattle.admission.proofs.OneAnswer.{found-lowest}

@@ -16,10 +16,10 @@ use Rattle.machine.specs.Step.{wordCount, resultOf, withOverflow, actState, goS
 use Rattle.state.specs.State.{stateLength, EachBelow, resetBytes, resetState, loaded, stored, wellFormed}
 use Rattle.emulator.specs.Run.{pairLength, imageFits, stateFits, ranOver, runResult}
 use Rattle.flow.specs.Flow.{joinAll, changesAll, sweepFrom, sweepChangesFrom, sweepChanges, sweeps}
-use Rattle.facts.specs.Facts.{resetFacts, allKnowNoMore, joinFacts, resultFact, withCarryFact}
+use Rattle.facts.specs.Facts.{allKnowNoMore, joinFacts, resultFact, withCarryFact}
 use Rattle.facts.specs.Record.{depths, resetCell, holdsCell, joinCell, recordOf, maskOf, readCell, cellAt, putRecord, putCell}
 use Rattle.transfer.specs.Passes.{over, overDown, gives, wordsAt, some, wordPasses, allPasses, tableSpace, tableLength, startTable}
-use Rattle.transfer.specs.Findings.{allBelow, findingAt, NoFinding}
+use Rattle.transfer.specs.Findings.{allBelow, findingAt}
 use Rattle.admission.specs.declared.AdmitAnswer.the-variants.{Admitted}
 use Rattle.admission.specs.Admission.{admitResult}
 use Rattle.guarantee.specs.Demand.{Job}

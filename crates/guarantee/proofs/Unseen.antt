@@ -1,19 +1,18 @@
 -- A bank that is not granted is not seen: by any run, and so by two lists of runs of an admitted program. Assumes nothing.
 use mathlib.Core.Path.{_≡_, refl, sym, _∙_, ap, subst, subst₂}
-use mathlib.Core.Logic.{_≢_}
 use mathlib.Core.Bool.{Bool, true, false, false≢true}
 use mathlib.Core.List.{List, [], _∷_, _++_}
-use Prim.Native.Nat.{ℕ, zero, suc, _*_, _/_, _%_, _≤_}
+use Prim.Native.Nat.{ℕ, zero, suc, _*_, _%_, _≤_}
 use native.Mathlib.Decide.{ℕ-discrete}
 use native.Mathlib.Omega.{arith}
 use lib.Dec.{eqb}
-use lib.ListN.{length, getD, drop, drop-of-length-le}
-use borrow.Author.Tests.{eq-eqb, eqb-true}
-use Rattle.choice.specs.Choice.{Question, ask, firstNo}
+use lib.ListN.{length, drop-of-length-le}
+use borrow.Author.Tests.{eqb-true}
+use Rattle.choice.specs.Choice.{firstNo}
 use Rattle.choice.proofs.Laws.{pick-beside}
-use Rattle.map.specs.Map.{mapLength, NothingReadable}
+use Rattle.map.specs.Map.{NothingReadable}
 use Rattle.state.specs.declared.State.{State}
-use Rattle.state.specs.State.{stateLength, EachBelow, loaded, stored, resetBytes, resetState, zeroState}
+use Rattle.state.specs.State.{EachBelow, loaded, resetBytes, resetState, zeroState}
 use Rattle.state.proofs.RoundTrip.{stored-bytes, reset-stored, reset-sized}
 use Rattle.machine.specs.Step.{wordCount, Step, stepped}
 use Rattle.machine.specs.Unseen.{EqualBut}
@@ -21,13 +20,13 @@ use Rattle.machine.proofs.Keeps.{Sound, step-sound}
 use Rattle.machine.proofs.Unseen.{step-unseen}
 use Rattle.emulator.specs.declared.RunAnswer.{RunAnswer}
 use Rattle.emulator.specs.declared.RunAnswer.the-variants.{Refused, Ended}
-use Rattle.emulator.specs.Run.{pairLength, pairCount, recordLength, Ran, after, ranOver, writtenOver, imageFits, stateFits, recordingFits, traceFits, doorQuestions, RunResult, refused, ended, runResult}
+use Rattle.emulator.specs.Run.{pairLength, pairCount, recordLength, Ran, after, ranOver, writtenOver, stateFits, doorQuestions, RunResult, refused, ended, runResult}
 use Rattle.emulator.proofs.Door.{image-words}
 use Rattle.emulator.proofs.Laws.{trace-length, two-below, run-sound, refused-run, let-in-run}
 use Rattle.emulator.proofs.Range.{let-in-state}
 use Rattle.admission.specs.Admission.{admitResult}
 use Rattle.flow.proofs.Each.{Each, none, also}
-use Rattle.guarantee.specs.Demand.{Job, Flawless, finished, executes, turnedAway}
+use Rattle.guarantee.specs.Demand.{Job, Flawless, executes, turnedAway}
 use Rattle.guarantee.specs.Unseen.{SameBut, RunUnseen, Twins, jobResult, Alike, Unseen, noTwins, nextTwins, ListsUnseen, BankUnseen}
 use Rattle.guarantee.proofs.Questions.{Yes, all-yes}
 use Rattle.guarantee.proofs.ResetSafe.{reset-done}
@@ -78,12 +77,6 @@ module _ (b : ℕ) (image map : List ℕ) (nothing : NothingReadable map b) (wor
 
 -- ---- the door
 
--- its questions are about the lengths of recording and trace
-abbrev doorOf : List ℕ → List ℕ → List ℕ → ℕ → ℕ → List Question
-doorOf image map state pairs room =
-    ask 11 (imageFits image) ∷ ask 12 (eqb (length map) mapLength) ∷ ask 14 (stateFits state) ∷
-    ask 15 (eqb (pairs % pairLength) 0) ∷ ask 16 (eqb room (pairs / pairLength * recordLength)) ∷ []
-
 -- what a run is let in with
 record PastDoor (image map state recording trace : List ℕ) : Type 0 where
   words : wordCount image ≤ 8192
@@ -102,7 +95,7 @@ pub run-unseen : RunUnseen
 run-unseen b image map state one other trace nothing same bytes before ours theirs = by (ℕ-discrete (firstNo (doorQuestions image map state one trace)) 0)
   where
     door : firstNo (doorQuestions image map state one trace) ≡ firstNo (doorQuestions image map state other trace)
-    door = ap (λ (n : ℕ). firstNo (doorOf image map state n (length trace))) (same .long)
+    door = rw (same .long)
 
     by : Dec (firstNo (doorQuestions image map state one trace) ≡ 0) → runResult image map state one trace ≡ runResult image map state other trace
     by (yes e) =
@@ -143,7 +136,7 @@ module _ (image map state recording : List ℕ) where
   lent one other long whole = by (ℕ-discrete (firstNo (doorQuestions image map state recording one)) 0)
     where
       door : firstNo (doorQuestions image map state recording one) ≡ firstNo (doorQuestions image map state recording other)
-      door = ap (λ (n : ℕ). firstNo (doorOf image map state (length recording) n)) long
+      door = rw long
 
       ran : Ran
       ran = ranOver image map recording (loaded state)

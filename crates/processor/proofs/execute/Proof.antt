@@ -1,4 +1,4 @@
--- `machine::execute` meets its contract. Assumes nothing.
+-- `processor::execute` meets its contract. Assumes nothing.
 use mathlib.Core.Path.{ap, subst}
 use mathlib.Core.List.{[], _∷_}
 use denote.Ref.{now}

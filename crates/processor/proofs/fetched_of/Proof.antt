@@ -1,4 +1,4 @@
--- `machine::fetched_of` meets its contract: Invalid is case 13. Assumes nothing.
+-- `processor::fetched_of` meets its contract: Invalid is case 13. Assumes nothing.
 use mathlib.Core.Path.{refl, subst}
 use mathlib.Core.List.{List, [], _∷_}
 use Prim.Native.Nat.{ℕ}

@@ -1,4 +1,4 @@
--- `machine::form_at` meets its contract. Assumes nothing.
+-- `processor::form_at` meets its contract. Assumes nothing.
 use denote.Ref.{now}
 use Rattle.processor.proofs.Forming.{read-shape}
 use borrow.Author.Needs.{needs}

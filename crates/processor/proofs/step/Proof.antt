@@ -1,4 +1,4 @@
--- `machine::step` meets its contract. Assumes nothing.
+-- `processor::step` meets its contract. Assumes nothing.
 use native.Mathlib.Nat.{lt-of-lt-of-le}
 use lib.ListN.{getD}
 use Prim.Native.Nat.{_*_, _+_, _<_}

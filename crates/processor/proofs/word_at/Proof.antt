@@ -1,4 +1,4 @@
--- `machine::word_at` meets its contract. Assumes nothing.
+-- `processor::word_at` meets its contract. Assumes nothing.
 use Prim.Native.Nat.{_+_, _*_}
 use lib.ListN.{getD}
 use denote.Ref.{now}
