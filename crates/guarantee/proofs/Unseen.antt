@@ -54,25 +54,25 @@ rest-same {b} same =
 -- ---- the steps of a run
 
 module _ (b : ℕ) (image map : List ℕ) (nothing : NothingReadable map b) (words : wordCount image ≤ 8192) (bytes : EachBelow 256 image) where
-  ran-unseen : (one other : List ℕ) → SameBut b one other → EachBelow 256 one → EachBelow 256 other → (s : State) → Sound s
+  ran-unseen : (one other : List ℕ) → SameBut b one other → EachBelow 256 other → (s : State) → Sound s
       → ranOver image map one s ≡ ranOver image map other s
   unfolding ranOver
-  ran-unseen [] [] same ours theirs s sound = refl
-  ran-unseen [] (l ∷ others) same ours theirs s sound = let long = same .long in absurd (omega arith)
-  ran-unseen (left ∷ []) [] same ours theirs s sound = let long = same .long in absurd (omega arith)
-  ran-unseen (left ∷ []) (l ∷ []) same ours theirs s sound = refl
-  ran-unseen (left ∷ []) (l ∷ r ∷ others) same ours theirs s sound = let long = same .long in absurd (omega arith)
-  ran-unseen (left ∷ right ∷ rest) [] same ours theirs s sound = let long = same .long in absurd (omega arith)
-  ran-unseen (left ∷ right ∷ rest) (l ∷ []) same ours theirs s sound = let long = same .long in absurd (omega arith)
-  ran-unseen (left ∷ right ∷ rest) (l ∷ r ∷ others) same ours theirs s sound =
+  ran-unseen [] [] same below s sound = refl
+  ran-unseen [] (l ∷ others) same below s sound = let long = same .long in absurd (omega arith)
+  ran-unseen (left ∷ []) [] same below s sound = let long = same .long in absurd (omega arith)
+  ran-unseen (left ∷ []) (l ∷ []) same below s sound = refl
+  ran-unseen (left ∷ []) (l ∷ r ∷ others) same below s sound = let long = same .long in absurd (omega arith)
+  ran-unseen (left ∷ right ∷ rest) [] same below s sound = let long = same .long in absurd (omega arith)
+  ran-unseen (left ∷ right ∷ rest) (l ∷ []) same below s sound = let long = same .long in absurd (omega arith)
+  ran-unseen (left ∷ right ∷ rest) (l ∷ r ∷ others) same below s sound =
       let next = stepped image map (l ∷ r ∷ []) s .state in
-      let kept = step-sound image map (l ∷ r ∷ []) s words bytes (two-below (theirs 0) (theirs 1)) sound .state in
+      let kept = step-sound image map (l ∷ r ∷ []) s words bytes (two-below (below 0) (below 1)) sound .state in
       pick-beside _≡_ (eqb (s .stop) 0)
       (λ _.
       ap (λ (o : Step). after o (ranOver image map rest (o .state)))
       (step-unseen b image map (left ∷ right ∷ []) (l ∷ r ∷ []) s nothing (first-equal same) (sound .sized .values _))
       ∙ ap (after (stepped image map (l ∷ r ∷ []) s))
-      (ran-unseen rest others (rest-same same) (λ k. ours (suc (suc k))) (λ k. theirs (suc (suc k))) next kept))
+      (ran-unseen rest others (rest-same same) (λ k. below (suc (suc k))) next kept))
       (λ _. refl)
 
 -- ---- the door
@@ -92,7 +92,7 @@ through-door image map state recording trace h = by (all-yes (also refl (also re
         record { words = image-words image fits; formed = formed; room = eqb-true (length trace) (pairCount recording * recordLength) room }
 
 pub run-unseen : RunUnseen
-run-unseen b image map state one other trace nothing same bytes before ours theirs = by (ℕ-discrete (firstNo (doorQuestions image map state one trace)) 0)
+run-unseen b image map state one other trace nothing same bytes before below = by (ℕ-discrete (firstNo (doorQuestions image map state one trace)) 0)
   where
     door : firstNo (doorQuestions image map state one trace) ≡ firstNo (doorQuestions image map state other trace)
     door = rw (same .long)
@@ -101,7 +101,7 @@ run-unseen b image map state one other trace nothing same bytes before ours thei
     by (yes e) =
         let l = through-door image map state one trace e in
         let-in-run image map state one trace e
-        ∙ ap (ended trace) (ran-unseen b image map nothing (l .words) bytes one other same ours theirs (loaded state) (let-in-state state before (l .formed)))
+        ∙ ap (ended trace) (ran-unseen b image map nothing (l .words) bytes one other same below (loaded state) (let-in-state state before (l .formed)))
         ∙ sym (let-in-run image map state other trace (sym door ∙ e))
     by (no n) =
         refused-run image map state one trace n ∙ ap (refused state trace) door
@@ -194,7 +194,7 @@ module _ (b : ℕ) (image map table : List ℕ) (nothing : NothingReadable map b
       → Alike (jobResult image map state (t .one)) (jobResult image map state (t .other))
   twins-alike state before t whole =
       subst (Alike (jobResult image map state (t .one)))
-      (run-unseen b image map state (t .one .recording) (t .other .recording) (t .other .trace) nothing (t .recordings) bytes before (t .one .bytes) (t .other .bytes))
+      (run-unseen b image map state (t .one .recording) (t .other .recording) (t .other .trace) nothing (t .recordings) bytes before (t .other .bytes))
       (lent image map state (t .one .recording) (t .one .trace) (t .other .trace) (t .traces) whole)
 
   further : (state : List ℕ) → EachBelow 256 state → (t : Twins b) (ts : List (Twins b)) → Whole image map state (t .one .recording) (t .one .trace)

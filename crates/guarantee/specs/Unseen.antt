@@ -20,12 +20,11 @@ pub record SameBut (b : ℕ) (one other : List ℕ) : Type 0 where
   pub equal : (k : ℕ) → k % pairLength ≢ b → getD one k 0 ≡ getD other k 0
 
 -- Every program, admitted or not, from every state: two runs over such recordings into one trace yield the same, refused runs
--- included. What is asked beside of image, state and recordings is that they are bytes.
+-- included. All that is asked beside is that image, state and one of the recordings are bytes.
 abbrev pub RunUnseen : Type 0
 RunUnseen =
     (b : ℕ) (image map state one other trace : List ℕ) → NothingReadable map b → SameBut b one other → EachBelow 256 image
-    → EachBelow 256 state → EachBelow 256 one → EachBelow 256 other
-    → runResult image map state one trace ≡ runResult image map state other trace
+    → EachBelow 256 state → EachBelow 256 other → runResult image map state one trace ≡ runResult image map state other trace
 
 -- The runs at one place of two lists: such recordings, and traces of one length, whatever bytes they hold before.
 pub record Twins (b : ℕ) : Type 0 where
