@@ -53,7 +53,7 @@ pub data Unseen (image map : List ℕ) {b : ℕ} : List ℕ → List ℕ → Lis
       → Unseen image map (jobResult image map state (twins .one) .state) (jobResult image map its (twins .other) .state) rest
       → Unseen image map state its (twins ∷ rest)
 
--- "an admitted program whose right readable set is empty", of bank b: `admit` answers admitted, from whatever bytes the table held
+-- "an admitted program whose right readable set is empty", of bank b: `admit` answers admitted, whatever the lent table held
 pub record Ungranted (b : ℕ) (image map table : List ℕ) : Type 0 where
   pub bytes : EachBelow 256 image
   pub admitted : admitResult image map table .answer ≡ Admitted

@@ -1,1 +1,1 @@
-// Definitions and the theorem alone: an admitted program runs without a stop.
+// Definitions and theorems alone: an admitted program runs without a stop, and does not see a bank that is not granted.

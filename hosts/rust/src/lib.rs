@@ -215,7 +215,8 @@ pub fn reset(state: &mut [u8]) -> Result<(), Refusal> {
     Ok(())
 }
 
-/// Runs an image under a map over the pairs of a recording.
+/// Runs an image under a map over the pairs of a recording. An admitted program takes every pair from reset on, and the
+/// recording's bytes of a bank in which the map has nothing readable make no difference to it.
 pub fn run(image: &[u8], map: &[u8], state: &mut [u8], recording: &[u8], trace: &mut [u8]) -> RunAnswer {
     let answer = unsafe {
         raw::riptide_run(
