@@ -23,7 +23,7 @@ use Rattle.admission.specs.Admission.{filledTable, verdictOf, AdmitResul
 use Rattle.admission.proofs.Same.{SameCells, finding-same}
 use Rattle.admission.proofs.Marking.{Marking, marked-all}
 use Rattle.admission.proofs.Verdict.{clear-admitted, admitted-clear}
-use Rattle.admission.proofs.Door.{let-in}
+use Rattle.admission.proofs.Opening.{let-in}
 
 -- ---- the table: the cells of the least table, and each record with its finding
 
@@ -76,7 +76,7 @@ module _ (image map : List ℕ) (bytes : (k : ℕ) → getD image k 0 < 256) (so
 
 pub cleared-admitted : (image map table : List ℕ) → Cleared image map table → admitResult image map table ≡ resulting Admitted (sweepsOf image) (filledTable image map)
 cleared-admitted image map table c =
-    let-in image map table (c .fits) (c .long) (c .room)
+    let-in image map table (record { fits = c .fits; long = c .long; room = c .room })
     ∙ ap (λ (a : AdmitAnswer). resulting a (sweepsOf image) (filledTable image map)) (clear-admitted image map (leastTable image) (c .clear))
 
 pub admitted-cleared : (image map table : List ℕ) → admitResult image map table .answer ≡ Admitted → Cleared image map table

@@ -3,7 +3,7 @@ pub mod Marking
 pub mod Lowest
 pub mod Verdict
 pub mod Marks
-pub mod Door
+pub mod Opening
 pub mod Filled
 pub mod Range
 pub mod OneAnswer

@@ -54,12 +54,12 @@ module _ (image map table : List ℕ) where
       let some : 0 < wordCount image = omega arith in
       let place : pointAt (wordCount image) (i / wordCount image) (i % wordCount image) ≡ i = div-add-mod' i (wordCount image) in
       lowest-at (findingAt image map table i) (i / wordCount image) (i % wordCount image) (div-lt-iff-lt-mul some .1 below) (mod-lt i some)
-      (ap (findingAt image map table) place) (first image map table 0 n .found (omega arith))
-      (λ k l. first image map table 0 n .lower k (omega arith) (omega arith)))
+      (ap (findingAt image map table) place) (first (findingAt image map table) 0 n .found (omega arith))
+      (λ k l. first (findingAt image map table) 0 n .lower k (omega arith) (omega arith)))
       (λ e d a deep near.
       let past : n ≤ i = ltb-false i n e in
       let inside : pointAt (wordCount image) d a < n = digits-lt deep near in
-      first image map table 0 n .lower (pointAt (wordCount image) d a) (omega arith) (omega arith))
+      first (findingAt image map table) 0 n .lower (pointAt (wordCount image) d a) (omega arith) (omega arith))
     where
       n : ℕ
       n = depths * wordCount image

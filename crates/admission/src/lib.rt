@@ -3,7 +3,7 @@ ghost use mathlib.Core.Path.{_≡_};
 ghost use Prim.Native.Nat.{_*_, _≤_, _<_};
 ghost use lib.Dec.{eqb};
 ghost use lib.ListN.{length};
-ghost use Rattle.choice.specs.Choice.{pick};
+ghost use Rattle.choice.specs.Choice.{pick, firstNo};
 ghost use Rattle.map.specs.Map.{mapLength};
 ghost use Rattle.machine.specs.Step.{wordCount};
 ghost use Rattle.facts.specs.Record.{depths, recordOf, cellAt, putRecord};
@@ -11,7 +11,7 @@ ghost use Rattle.transfer.specs.Passes.{pointAt, sweepBound};
 ghost use Rattle.transfer.specs.Findings.{findingAt};
 ghost use Rattle.callers.specs.Callers.{Held};
 ghost use Rattle.admission.specs.declared.AdmitAnswer.the-variants.{Refused};
-ghost use Rattle.admission.specs.Admission.{withFindings, verdictOf, resulting, admitResult};
+ghost use Rattle.admission.specs.Admission.{admitQuestions, withFindings, verdictOf, resulting, admitResult};
 
 // What admission answers: a refusal at the door; admitted; or the finding of lowest depth, and among those the one of lowest
 // address.
@@ -105,6 +105,22 @@ fn mark(image: &[u8], map: &[u8], table: &mut [u8]) -> AdmitAnswer
     }
 }
 
+// The number of the first of questions 11, 12 and 13 that gets a no, or 0.
+pub fn door(image: &[u8], map: &[u8], table: &[u8]) -> usize
+    ensures { λ r. ⌜ r ≡ firstNo (admitQuestions (now (image .entry)) (now (map .entry)) (now (table .entry))) ⌝ }
+{
+    if !emulator::image_fits(image) {
+        return 11;
+    }
+    if map.len() != map::LENGTH {
+        return 12;
+    }
+    if table.len() != image.len() / 2 * facts::WORD_RECORDS {
+        return 13;
+    }
+    0
+}
+
 // A refusal at the door: no sweep was made.
 fn refused(number: usize) -> Answered
     ensures { λ r. ⌜ r ≡ record { answer = Refused number; sweeps = 0 } ⌝ }
@@ -120,14 +136,9 @@ fn refused(number: usize) -> Answered
 pub fn admit(image: &[u8], map: &[u8], table: &mut [u8]) -> Answered
     ensures { λ r. ⌜ (resulting (r .answer) (r .sweeps) (now (table .exit)) ≡ admitResult (now (image .entry)) (now (map .entry)) (now (table .entry))) × (r .sweeps ≤ sweepBound (now (image .entry))) ⌝ }
 {
-    if !emulator::image_fits(image) {
-        return refused(11);
-    }
-    if map.len() != map::LENGTH {
-        return refused(12);
-    }
-    if table.len() != image.len() / 2 * facts::WORD_RECORDS {
-        return refused(13);
+    let number = door(image, map, table);
+    if number != 0 {
+        return refused(number);
     }
     let sweeps = filling::fill(image, table);
     let answer = mark(image, map, table);

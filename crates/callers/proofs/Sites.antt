@@ -1,5 +1,5 @@
 -- A call site: the cell as it is loaded, and the word there.
-use mathlib.Core.Path.{_≡_, refl, ap, _∙_}
+use mathlib.Core.Path.{_≡_, refl, ap, ap₂, _∙_}
 use mathlib.Core.Bool.{Bool, true, false, _&&_, not, true≢false, false≢true}
 use mathlib.Core.List.{List}
 use Prim.Native.Nat.{ℕ, _≤_, _<_}
@@ -21,9 +21,12 @@ module _ (image table : List ℕ) (depth a : ℕ) where
       none true d h = absurd (false≢true h)
       none false d h = refl
 
-  pub site : {c : Cell} → c ≡ cellAt table (pointAt (wordCount image) depth a) → not (c .reached) ≡ false → {s : Shape} → s ≡ shapeAt image a
+  pub site : {b : Bool} {c : Cell} → b ≡ cellAt table (pointAt (wordCount image) depth a) .reached → not b ≡ false
+      → c ≡ cellAt table (pointAt (wordCount image) depth a) → {s : Shape} → s ≡ shapeAt image a
       → {r : Bool} → r ≡ some isCall (wordsAt image a (c .facts) s) → r ≡ isCallSite image table depth a
-  site {c} e h {s} read {r} told = told ∙ ap (λ x. some isCall (wordsAt image a (c .facts) x)) read ∙ (rw (← e) (yes-site (c .reached) h))
+  site {b} {c} here h e {s} read {r} told =
+      told ∙ ap (λ x. some isCall (wordsAt image a (c .facts) x)) read ∙ yes-site b h
+      ∙ ap₂ (λ (x : Bool) (d : Cell). x && some isCall (wordsAt image a (d .facts) (shapeAt image a))) here e
     where
       yes-site : (b : Bool) {d : Bool} → not b ≡ false → d ≡ b && d
       yes-site true h = refl

@@ -13,7 +13,7 @@ use Rattle.facts.specs.Record.{recordSize, depths, resetCell, putCell, FineCell
 use Rattle.transfer.specs.Passes.{tableSpace, tableLength, startTable, sweepBound, leastTable, sweepsOf}
 use Rattle.transfer.proofs.TableLaws.{table-laws, start-begins, start-weight}
 use Rattle.transfer.proofs.LeastTable.{count-bound, filled-is-least}
-use Rattle.sweeps.specs.Sweeps.{Laid}
+use Rattle.passing.specs.Passing.{Laid}
 
 -- the table before the first sweep: zeros, and the reset cell
 pub started : (image t : List ℕ) {u v : List ℕ} → length t ≡ recordSize * (depths * wordCount image) → u ≡ replicate (length t) 0 → v ≡ putCell u 0 resetCell

@@ -1,7 +1,7 @@
 -- The clauses of the definitions as equations, and the forms in which a loop uses them: what is left to do now gives what
 -- there was to do at first. A flag that a loop carries stands before the `||`.
 use mathlib.Core.Path.{_≡_, refl, sym, _∙_, ap, ap₂}
-use mathlib.Core.Bool.{Bool, true, false, _&&_, _||_, or-assoc, or-false}
+use mathlib.Core.Bool.{Bool, true, false, _&&_, _||_, and-assoc, and-true, or-assoc, or-false}
 use mathlib.Core.List.{List, [], _∷_, _++_}
 use Prim.Native.Nat.{ℕ, zero, suc, _+_, _-_, _≤_, _<_}
 use native.Mathlib.Omega.{arith}
@@ -65,6 +65,17 @@ module _ {Tb C : Type 0} (S : Space Tb C) where
       → allCovered S t (p ∷ ps) ≡ S .covers (S .at t (p .target)) (p .cell) && allCovered S t ps
   unfolding allCovered
   allCovered-cons t p ps = refl
+
+  pub allCovered-one : (t : Tb) (p : Pass C) → allCovered S t (p ∷ []) ≡ S .covers (S .at t (p .target)) (p .cell)
+  unfolding allCovered
+  allCovered-one t p = and-true (S .covers (S .at t (p .target)) (p .cell))
+
+  pub allCovered-append : (t : Tb) (ps qs : List (Pass C)) → allCovered S t (ps ++ qs) ≡ allCovered S t ps && allCovered S t qs
+  unfolding allCovered
+  allCovered-append t [] qs = refl
+  allCovered-append t (p ∷ ps) qs =
+      let here = S .covers (S .at t (p .target)) (p .cell) in
+      ap (λ b. here && b) (allCovered-append t ps qs) ∙ sym (and-assoc here (allCovered S t ps) (allCovered S t qs))
 
   -- ---- turns
   pub sweepFrom-zero : (t : Tb) (i : ℕ) → sweepFrom S t i 0 ≡ t

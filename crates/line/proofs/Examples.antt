@@ -19,7 +19,7 @@ use Rattle.flow.proofs.Filling.{sweeps-rest}
 use Rattle.facts.specs.Facts.{allKnowNoMore, joinFacts, resultFact, carryFact, withCarryFact}
 use Rattle.facts.specs.Record.{holdsCell, joinCell, maskOf, recordOf, readCell, cellAt, putRecord}
 use Rattle.transfer.specs.Passes.{over, overDown, gives, wordsAt, some, wordPasses, allPasses, tableSpace, startTable, leastTable}
-use Rattle.transfer.specs.Findings.{allBelow, findingAt, firstFinding}
+use Rattle.transfer.specs.Findings.{allBelow, findingAt, firstOf}
 use Rattle.transfer.proofs.TableLaws.{table-laws, start-begins}
 use Rattle.admission.specs.Admission.{filledTable, verdictOf}
 use Rattle.admission.specs.Lowest.{findingIn, Lowest}
@@ -75,12 +75,12 @@ line-of map table = answerLine image map (verdictOf image map table) ++ endText
 
 -- `admitted words 5 left 1 1 right 0 0`
 admitted-line : line-of writable-map filled ≡ 97 ∷ 100 ∷ 109 ∷ 105 ∷ 116 ∷ 116 ∷ 101 ∷ 100 ∷ 32 ∷ 119 ∷ 111 ∷ 114 ∷ 100 ∷ 115 ∷ 32 ∷ 53 ∷ 32 ∷ 108 ∷ 101 ∷ 102 ∷ 116 ∷ 32 ∷ 49 ∷ 32 ∷ 49 ∷ 32 ∷ 114 ∷ 105 ∷ 103 ∷ 104 ∷ 116 ∷ 32 ∷ 48 ∷ 32 ∷ 48 ∷ 10 ∷ []
-unfolding verdictOf decimal countBelow inSet allBelow findingAt firstFinding joinAll changesAll sweepFrom sweepChangesFrom sweeps allKnowNoMore joinFacts resultFact carryFact withCarryFact holdsCell joinCell maskOf recordOf readCell cellAt putRecord over overDown gives wordsAt some wordPasses allPasses decoded shapeOf slotOf rotateRight lowBits resultOf
+unfolding verdictOf decimal countBelow inSet allBelow findingAt firstOf joinAll changesAll sweepFrom sweepChangesFrom sweeps allKnowNoMore joinFacts resultFact carryFact withCarryFact holdsCell joinCell maskOf recordOf readCell cellAt putRecord over overDown gives wordsAt some wordPasses allPasses decoded shapeOf slotOf rotateRight lowBits resultOf
 admitted-line = refl
 
 -- `refused 24 depth 0 address 3`
 refused-line : line-of readable-map filled ≡ 114 ∷ 101 ∷ 102 ∷ 117 ∷ 115 ∷ 101 ∷ 100 ∷ 32 ∷ 50 ∷ 52 ∷ 32 ∷ 100 ∷ 101 ∷ 112 ∷ 116 ∷ 104 ∷ 32 ∷ 48 ∷ 32 ∷ 97 ∷ 100 ∷ 100 ∷ 114 ∷ 101 ∷ 115 ∷ 115 ∷ 32 ∷ 51 ∷ 10 ∷ []
-unfolding verdictOf decimal countBelow inSet allBelow findingAt firstFinding joinAll changesAll sweepFrom sweepChangesFrom sweeps allKnowNoMore joinFacts resultFact carryFact withCarryFact holdsCell joinCell maskOf recordOf readCell cellAt putRecord over overDown gives wordsAt some wordPasses allPasses decoded shapeOf slotOf rotateRight lowBits resultOf
+unfolding verdictOf decimal countBelow inSet allBelow findingAt firstOf joinAll changesAll sweepFrom sweepChangesFrom sweeps allKnowNoMore joinFacts resultFact carryFact withCarryFact holdsCell joinCell maskOf recordOf readCell cellAt putRecord over overDown gives wordsAt some wordPasses allPasses decoded shapeOf slotOf rotateRight lowBits resultOf
 refused-line = refl
 
 pub prints-admitted : lineOf (writable-map ++ image) ≡ 97 ∷ 100 ∷ 109 ∷ 105 ∷ 116 ∷ 116 ∷ 101 ∷ 100 ∷ 32 ∷ 119 ∷ 111 ∷ 114 ∷ 100 ∷ 115 ∷ 32 ∷ 53 ∷ 32 ∷ 108 ∷ 101 ∷ 102 ∷ 116 ∷ 32 ∷ 49 ∷ 32 ∷ 49 ∷ 32 ∷ 114 ∷ 105 ∷ 103 ∷ 104 ∷ 116 ∷ 32 ∷ 48 ∷ 32 ∷ 48 ∷ 10 ∷ []

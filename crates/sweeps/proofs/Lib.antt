@@ -1,7 +1,2 @@
-pub mod Passing
-pub mod Lists
-pub mod Going
-pub mod Executing
-pub mod Returning
 pub mod Turning
 pub mod Rounds

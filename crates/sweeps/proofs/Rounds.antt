@@ -10,7 +10,7 @@ use Rattle.flow.proofs.Loops.{Sweeping, sweeping-begins, sweeping-turn, sweepin
 use Rattle.facts.specs.Record.{depths}
 use Rattle.transfer.specs.Passes.{pointAt, tableSpace}
 use Rattle.callers.proofs.Points.{point-inside}
-use Rattle.sweeps.specs.Sweeps.{Laid}
+use Rattle.passing.specs.Passing.{Laid}
 
 -- the next place after a depth's last one
 pub next-depth : (n depth pc : ℕ) → pc + 1 ≡ n → depth * n + pc + 1 ≡ (depth + 1) * n + 0

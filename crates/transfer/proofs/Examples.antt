@@ -13,7 +13,7 @@ use Rattle.flow.specs.Flow.{joinAll, changesAll, sweepFrom, sweepChangesFrom, s
 use Rattle.facts.specs.Facts.{allKnowNoMore, joinFacts, resultFact, carryFact, withCarryFact}
 use Rattle.facts.specs.Record.{depths, holdsCell, joinCell, maskOf, recordOf, readCell, cellAt, putRecord}
 use Rattle.transfer.specs.Passes.{over, overDown, gives, wordsAt, some, wordPasses, allPasses, tableSpace, startTable}
-use Rattle.transfer.specs.Findings.{allBelow, findingAt, firstFinding}
+use Rattle.transfer.specs.Findings.{allBelow, findingAt, firstOf, firstFinding}
 
 -- 1 where one more sweep changes the table; the lowest cell with a finding, and the finding, or the number of cells and 0
 told : List ℕ → List ℕ → List ℕ → List ℕ
@@ -87,5 +87,5 @@ told-examples : examples ≡
     (0 ∷ 0 ∷ 22 ∷ []) ∷ (0 ∷ 1 ∷ 23 ∷ []) ∷ (0 ∷ 0 ∷ 25 ∷ []) ∷ (0 ∷ 16 ∷ 26 ∷ []) ∷
     (0 ∷ 0 ∷ 27 ∷ []) ∷ (0 ∷ 27 ∷ 0 ∷ []) ∷ (0 ∷ 0 ∷ 27 ∷ []) ∷ (0 ∷ 27 ∷ 0 ∷ []) ∷ (0 ∷ 0 ∷ 28 ∷ []) ∷ (0 ∷ 0 ∷ 29 ∷ []) ∷ (0 ∷ 0 ∷ 25 ∷ []) ∷ (0 ∷ 4 ∷ 22 ∷ []) ∷
     (0 ∷ 45 ∷ 0 ∷ []) ∷ (0 ∷ 3 ∷ 21 ∷ []) ∷ (0 ∷ 54 ∷ 0 ∷ []) ∷ (0 ∷ 3 ∷ 22 ∷ []) ∷ []
-unfolding examples after-sweeps told open-map only panel summed firstFinding inSet allBelow findingAt rotateRight lowBits decoded shapeOf slotOf resultOf joinAll changesAll sweepFrom sweepChangesFrom sweeps allKnowNoMore joinFacts resultFact carryFact withCarryFact holdsCell joinCell maskOf recordOf readCell cellAt putRecord over overDown gives wordsAt some wordPasses allPasses
+unfolding examples after-sweeps told open-map only panel summed firstOf inSet allBelow findingAt rotateRight lowBits decoded shapeOf slotOf resultOf joinAll changesAll sweepFrom sweepChangesFrom sweeps allKnowNoMore joinFacts resultFact carryFact withCarryFact holdsCell joinCell maskOf recordOf readCell cellAt putRecord over overDown gives wordsAt some wordPasses allPasses
 told-examples = refl

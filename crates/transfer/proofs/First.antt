@@ -1,39 +1,52 @@
--- Where the scan for a finding ends: at the first cell that has one, or past the last cell. Assumes nothing.
-use mathlib.Core.Path.{_≡_, ap, _∙_}
+-- Where a scan for a number ends: at the first place that has one, or past the last. Assumes nothing.
+use mathlib.Core.Path.{_≡_, refl, ap, _∙_}
 use mathlib.Core.Logic.{_≢_}
-use mathlib.Core.List.{List}
+use mathlib.Core.Bool.{Bool, true, false}
 use Prim.Native.Nat.{ℕ, zero, suc, _+_, _≤_, _<_}
 use native.Mathlib.Omega.{arith}
-use lib.Dec.{eqb}
-use borrow.Author.Tests.{eqb-true, eqb-false}
+use lib.Dec.{ltb, eqb}
+use borrow.Author.Tests.{eqb-true, eqb-false, ltb-true, ltb-false}
 use Rattle.choice.proofs.Laws.{pick-cases}
-use Rattle.transfer.specs.Findings.{findingAt, firstFinding}
+use Rattle.transfer.specs.Findings.{firstOf}
 use Rattle.transfer.proofs.Membership.{same-or}
 
-pub record First (image map table : List ℕ) (i n j : ℕ) : Type 0 where
+pub record First (number : ℕ → ℕ) (i n j : ℕ) : Type 0 where
+  pub least : i ≤ j
   pub most : j ≤ i + n
-  pub found : j < i + n → findingAt image map table j ≢ 0
-  pub lower : (k : ℕ) → i ≤ k → k < j → findingAt image map table k ≡ 0
+  pub found : j < i + n → number j ≢ 0
+  pub lower : (k : ℕ) → i ≤ k → k < j → number k ≡ 0
 
-module _ (image map table : List ℕ) where
-  pub first : (i n : ℕ) → First image map table i n (firstFinding image map table i n)
-  unfolding firstFinding
+module _ (number : ℕ → ℕ) where
+  pub first : (i n : ℕ) → First number i n (firstOf number i n)
+  unfolding firstOf
   first i zero =
-      record { most = omega arith; found = λ l. absurd (omega arith); lower = λ k low high. absurd (omega arith) }
+      record { least = omega arith; most = omega arith; found = λ l. absurd (omega arith); lower = λ k low high. absurd (omega arith) }
   first i (suc n) =
-      pick-cases (First image map table i (suc n)) (eqb (findingAt image map table i) 0)
+      pick-cases (First number i (suc n)) (eqb (number i) 0)
       (λ e.
       let rest = first (suc i) n in
       record {
-        most = omega arith;
+        least = omega (arith, rest .least);
+        most = omega (arith, rest .most);
         found = λ l. rest .found (omega arith);
-        lower = λ k low high.
-            same-or k i (λ q. ap (findingAt image map table) q ∙ eqb-true (findingAt image map table i) 0 e)
-            (λ q. rest .lower k (omega arith) high);
+        lower = λ k low high. same-or k i (λ q. ap number q ∙ eqb-true (number i) 0 e) (λ q. rest .lower k (omega arith) high);
       })
       (λ e.
       record {
+        least = omega arith;
         most = omega arith;
-        found = λ l. eqb-false (findingAt image map table i) 0 e;
+        found = λ l. eqb-false (number i) 0 e;
         lower = λ k low high. absurd (omega arith);
       })
+
+  -- there is no other such place
+  pub first-at : (i n : ℕ) {j : ℕ} → First number i n j → firstOf number i n ≡ j
+  first-at i n {j = j} a = told (ltb j k) refl (ltb k j) refl
+    where
+      k : ℕ
+      k = firstOf number i n
+
+      told : (b : Bool) → ltb j k ≡ b → (c : Bool) → ltb k j ≡ c → k ≡ j
+      told true w c v = let l = ltb-true j k w in let b = first i n in absurd (a .found (omega (arith, b .most)) (b .lower j (a .least) l))
+      told false w true v = let l = ltb-true k j v in let b = first i n in absurd (b .found (omega (arith, a .most)) (a .lower k (b .least) l))
+      told false w false v = let l = ltb-false j k w in let m = ltb-false k j v in omega arith

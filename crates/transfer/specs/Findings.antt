@@ -85,12 +85,15 @@ findingAt image map table i =
     (firstNo (cellQuestions image map table (i / wordCount image) (i % wordCount image) (cellAt table i .facts)))
     0
 
--- The first cell with a finding among n cells from i on; i + n where there is none. Cells stand in the table by depth, and at
--- one depth by address, so the first is "the finding of lowest depth, and among those the one of lowest address" (document
--- 02, 2026-02).
-unfoldable pub firstFinding : List ℕ → List ℕ → List ℕ → ℕ → ℕ → ℕ
-firstFinding image map table i zero = i
-firstFinding image map table i (suc n) = pick (eqb (findingAt image map table i) 0) (firstFinding image map table (suc i) n) i
+-- The first of n places from i on at which a number is not 0; i + n where there is none.
+unfoldable pub firstOf : (ℕ → ℕ) → ℕ → ℕ → ℕ
+firstOf number i zero = i
+firstOf number i (suc n) = pick (eqb (number i) 0) (firstOf number (suc i) n) i
+
+-- The first cell with a finding. Cells stand in the table by depth, and at one depth by address, so it is "the finding of
+-- lowest depth, and among those the one of lowest address" (document 02, 2026-02).
+abbrev pub firstFinding : List ℕ → List ℕ → List ℕ → ℕ → ℕ → ℕ
+firstFinding image map table = firstOf (findingAt image map table)
 
 -- "admitted": no cell has a finding
 pub record NoFinding (image map table : List ℕ) : Type 0 where

@@ -7,7 +7,7 @@ use lib.ListN.{length, length-replicate}
 use borrow.Author.Needs.{needs}
 use Rattle.flow.specs.Flow.{sumWeights}
 use Rattle.transfer.specs.Passes.{tableSpace}
-use Rattle.sweeps.specs.Sweeps.{Laid}
+use Rattle.passing.specs.Passing.{Laid}
 use Rattle.filling.proofs.Filling.{Way, started, reset-fine, way-begins, way-next, way-less, way-ends, way-bound}
 use Rattle.filling.proofs.fill.Statement.{statement}
 use Rattle.filling.proofs.fill.Tie as tie

@@ -1,5 +1,6 @@
 -- `sweeps::sweep` meets its contract. The invariant: the turns left, from the table now, give the whole sweep. Assumes
 -- nothing.
+use mathlib.Core.Path.{sym, _∙_}
 use Prim.Native.Nat.{_-_, _*_}
 use native.Mathlib.Omega.{arith}
 use denote.Ref.{now}
@@ -7,7 +8,6 @@ use borrow.Author.Needs.{needs}
 use Rattle.machine.specs.Step.{wordCount}
 use Rattle.facts.specs.Record.{depths}
 use Rattle.transfer.specs.Passes.{pointAt}
-use Rattle.sweeps.proofs.Passing.{same-size}
 use Rattle.sweeps.proofs.Rounds.{Round, round-begins, round-on, round-down, left-on, left-down, round-ends}
 use Rattle.sweeps.proofs.sweep.Statement.{statement}
 use Rattle.sweeps.proofs.sweep.Tie as tie
@@ -61,7 +61,7 @@ loop-again-2 c =
     round-on (now (a .image)) (now (a .table)) (p .depth) (p .pc) (c .before .before .before .before .before .loop-test .taken) (p .inv) (done .0) (done .1) (done .2) (c .if1 .left)
 
 same-length : tie.Need-same-length Inv-loop μ-loop
-same-length c = same-size (c .before .before .before .before .pre .0 .layout) (c .before .loop .inv .laid .layout)
+same-length c = c .before .loop .inv .laid .layout .long ∙ sym (c .before .before .before .before .pre .0 .layout .long)
 
 returns : tie.Need-returns Inv-loop μ-loop
 returns c =

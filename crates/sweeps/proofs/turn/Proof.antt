@@ -4,8 +4,8 @@ use denote.Ref.{now}
 use Rattle.machine.specs.Step.{wordCount}
 use Rattle.callers.proofs.Points.{point-small, point-room}
 use Rattle.callers.proofs.Sites.{site-bounded}
-use Rattle.sweeps.proofs.Passing.{small-depth}
-use Rattle.sweeps.proofs.Returning.{held}
+use Rattle.passing.proofs.Passing.{small-depth}
+use Rattle.passing.proofs.Returning.{held}
 use Rattle.sweeps.proofs.Turning.{turn-still, turn-done}
 use borrow.Author.Needs.{needs}
 use Rattle.sweeps.proofs.turn.Statement.{statement}
@@ -37,27 +37,21 @@ load-requires c κs =
     let start = c .before .before .before .before .before .before in
     omega (arith, point-room (wordCount (now (start .args .image))) (start .args .depth) (start .args .pc) (start .pre .2 .inside) (start .pre .1), start .pre .0 .layout .long)
 
-pass-words-requires : tie.Need-pass-words-requires
-pass-words-requires c κs =
+pass-cell-requires : tie.Need-pass-cell-requires
+pass-cell-requires c κs =
     let start = c .before .before .before .before .before .before .before .before .before .before in
     let a = start .args in
-    (start .pre .0, start .pre .1, start .pre .2, site-bounded (now (a .image)) (now (a .table)) (a .depth) (a .pc) (held (now (a .image)) (now (a .table)) (start .pre .0 .words) (start .pre .0 .layout)) (start .pre .1) (start .pre .2 .inside) (c .before .before .before .load .ensures), c .before .form-at .ensures .1)
-
-pass-returns-requires : tie.Need-pass-returns-requires
-pass-returns-requires c κs =
-    let start = c .before .before .before .before .before .before .before .before .before .before .before .before .before .before in
-    let a = start .args in
-    (record { words = start .pre .0 .words; layout = c .before .before .before .pass-words .ensures .laid }, start .pre .1, start .pre .2, site-bounded (now (a .image)) (now (a .table)) (a .depth) (a .pc) (held (now (a .image)) (now (a .table)) (start .pre .0 .words) (start .pre .0 .layout)) (start .pre .1) (start .pre .2 .inside) (c .before .before .before .before .before .before .before .load .ensures), c .before .before .before .before .before .form-at .ensures .1)
+    (start .pre .0, start .pre .1, start .pre .2, site-bounded (now (a .image)) (now (a .table)) (a .depth) (a .pc) (held (now (a .image)) (now (a .table)) (start .pre .0 .words) (start .pre .0 .layout)) (start .pre .1) (start .pre .2 .inside) (c .before .before .before .load .ensures))
 
 returns-2 : tie.Need-returns-2
 returns-2 c =
-    let start = c .before .before .before .before .before .before .before .before .before .before .before .before .before .before .before .before .before in
+    let start = c .before .before .before .before .before .before .before .before .before .before .before .before .before in
     let a = start .args in
-    turn-done (now (a .image)) (now (a .table)) (a .depth) (a .pc) (start .pre .2 .inside) (start .pre .0 .words) (c .before .before .before .before .before .before .before .before .before .before .before .before .before .reached .ensures) (c .before .before .before .before .before .before .before .before .before .before .load .ensures) (c .before .before .before .before .before .before .before .before .before .before .before .before .if1 .left)
-    (c .before .before .before .before .before .before .before .before .form-at .ensures .0) (c .before .before .before .before .before .before .pass-words .ensures) (c .before .before .pass-returns .ensures)
+    turn-done (now (a .image)) (now (a .table)) (a .depth) (a .pc) (start .pre .2 .inside) (start .pre .0 .words) (c .before .before .before .before .before .before .before .before .before .reached .ensures) (c .before .before .before .before .before .before .before .before .if1 .left)
+    (c .before .before .before .before .before .before .load .ensures) (c .before .before .pass-cell .ensures)
 
 pub turn-spec : {M : Type 1} → statement M
 turn-spec =
     tie.close
-    (tie.spec mul-i add-i reached-requires (λ c. search needs) returns load-requires (λ c κs. search needs)
-    pass-words-requires pass-returns-requires (λ c. search needs) returns-2)
+    (tie.spec mul-i add-i reached-requires (λ c. search needs) returns load-requires (λ c. search needs)
+    pass-cell-requires (λ c. search needs) returns-2)

@@ -1,0 +1,87 @@
+-- What an XEC executes: what the code has passed on for the places of its page is what they pass on.
+use mathlib.Core.Path.{_≡_, sym, _∙_, ap, ap₂, subst}
+use mathlib.Core.Bool.{Bool, true, false, not, _&&_, _||_, and-false}
+use mathlib.Core.List.{List, [], _∷_, _++_}
+use Prim.Native.Nat.{ℕ, _+_, _*_, _≤_, _<_}
+use native.Mathlib.Omega.{arith}
+use lib.Dec.{ltb}
+use borrow.Author.Tests.{lt-ltb, le-ltb, not-true, not-false}
+use Rattle.choice.specs.Choice.{pick}
+use Rattle.machine.specs.Shape.{Source, Shape, go, defer}
+use Rattle.machine.specs.Step.{wordCount, shapeAt, inPage}
+use Rattle.flow.specs.Flow.{Pass}
+use Rattle.facts.specs.declared.Cell.{Cell}
+use Rattle.facts.specs.Facts.{Span, spanOf}
+use Rattle.facts.specs.Record.{depths, Layout}
+use Rattle.transfer.specs.Passes.{over, gives, pageAddress, canBeExecuted, wordsAt, wordPasses, allPasses}
+use Rattle.callers.proofs.Executing.{in-page}
+use Rattle.passing.specs.Passing.{seen, Passed}
+use Rattle.passing.proofs.Lists.{over-none, over-more, all-none, all-append, not-defer}
+use Rattle.passing.proofs.Passing.{passed-as, passed-none, passed-then}
+
+-- the word at place k of the page, if it is executed; those at the first n places
+abbrev pub executedAt : List ℕ → ℕ → ℕ → ℕ → Span → ℕ → List Shape
+executedAt image pc page i span k =
+    pick (gives page i span k && canBeExecuted image (pageAddress page pc k)) (shapeAt image (pageAddress page pc k) ∷ []) []
+
+abbrev pub executedTo : List ℕ → ℕ → ℕ → ℕ → Span → ℕ → List Shape
+executedTo image pc page i span n =
+    over 0 n (λ k. gives page i span k && canBeExecuted image (pageAddress page pc k)) (λ k. shapeAt image (pageAddress page pc k) ∷ [])
+
+module _ (image asked : List ℕ) (depth pc : ℕ) (facts : List ℕ) (page i : ℕ) (span : Span) where
+  abbrev passesOf : List Shape → List (Pass Cell)
+  passesOf ws = allPasses (wordCount image) depth pc facts ws
+
+  -- ---- one place
+  module _ (k : ℕ) where
+    none-passed : {t : List ℕ} → executedAt image pc page i span k ≡ [] → Layout (depths * wordCount image) (seen asked t)
+        → Passed image asked depth t (passesOf (executedAt image pc page i span k)) t false
+    none-passed e g = passed-as (ap passesOf e ∙ all-none (wordCount image) depth pc facts) (passed-none g)
+
+    pub not-given : {t : List ℕ} (b : Bool) → b ≡ gives page i span k → not b ≡ true → Layout (depths * wordCount image) (seen asked t)
+        → Passed image asked depth t (passesOf (executedAt image pc page i span k)) t false
+    not-given b e w g = let no : gives page i span k ≡ false = sym e ∙ not-true b w in none-passed (rw no) g
+
+    pub not-inside : {t : List ℕ} {a : ℕ} → k < page → a ≡ inPage page pc k → wordCount image ≤ a → Layout (depths * wordCount image) (seen asked t)
+        → Passed image asked depth t (passesOf (executedAt image pc page i span k)) t false
+    not-inside h e l g =
+        let at = in-page page pc k h in
+        let out : ltb (pageAddress page pc k) (wordCount image) ≡ false = le-ltb (pageAddress page pc k) (wordCount image) (omega arith) in
+        none-passed (rw (out, and-false)) g
+
+    pub executed : {t u : List ℕ} {a : ℕ} {s : Shape} {r : Bool} (b : Bool) → k < page → b ≡ gives page i span k → not b ≡ false
+        → a ≡ inPage page pc k → a < wordCount image → s ≡ shapeAt image a
+        → Passed image asked depth t (wordPasses (wordCount image) depth pc facts s) u r
+        → Passed image asked depth t (passesOf (executedAt image pc page i span k)) u r
+    executed {a = a} {s = s} b h e given at l read p =
+        let yes : gives page i span k ≡ true = sym e ∙ not-false b given in
+        let same : a ≡ pageAddress page pc k = at ∙ in-page page pc k h in
+        let inside : ltb (pageAddress page pc k) (wordCount image) ≡ true = lt-ltb (pageAddress page pc k) (wordCount image) (omega arith) in
+        let shape : s ≡ shapeAt image (pageAddress page pc k) = read ∙ ap (shapeAt image) same in
+        let all : passesOf (executedAt image pc page i span k) ≡ wordPasses (wordCount image) depth pc facts (shapeAt image (pageAddress page pc k)) =
+        rw (yes, inside) (not-defer (wordCount image) depth pc facts (shapeAt image (pageAddress page pc k))) in
+        passed-as (all ∙ sym (ap (wordPasses (wordCount image) depth pc facts) shape)) p
+
+  -- ---- all places
+  pub executed-begins : {t : List ℕ} → Layout (depths * wordCount image) (seen asked t) → Passed image asked depth t (passesOf (executedTo image pc page i span 0)) t false
+  executed-begins g =
+      passed-as (ap passesOf (over-none (λ k. gives page i span k && canBeExecuted image (pageAddress page pc k)) (λ k. shapeAt image (pageAddress page pc k) ∷ []) 0) ∙ all-none (wordCount image) depth pc facts)
+      (passed-none g)
+
+  pub executed-next : (k : ℕ) {t u w : List ℕ} {r s : Bool} → Passed image asked depth t (passesOf (executedTo image pc page i span k)) u r
+      → Passed image asked depth u (passesOf (executedAt image pc page i span k)) w s
+      → Passed image asked depth t (passesOf (executedTo image pc page i span (k + 1))) w (r || s)
+  executed-next k p q =
+      let here : 0 + k ≡ k = omega arith in
+      let more : executedTo image pc page i span (k + 1) ≡ executedTo image pc page i span k ++ executedAt image pc page i span k =
+      over-more (λ k. gives page i span k && canBeExecuted image (pageAddress page pc k)) (λ k. shapeAt image (pageAddress page pc k) ∷ []) 0 k
+      ∙ ap (λ (n : ℕ). executedTo image pc page i span k ++ executedAt image pc page i span n) here in
+      passed-as (ap passesOf more ∙ all-append (wordCount image) depth pc facts (executedTo image pc page i span k) (executedAt image pc page i span k))
+      (passed-then p q)
+
+  pub executed-all : (source : Source) (k : ℕ) {t u : List ℕ} {r : Bool} → span ≡ spanOf source facts → k ≡ page
+      → Passed image asked depth t (passesOf (executedTo image pc page i span k)) u r
+      → Passed image asked depth t (passesOf (wordsAt image pc facts (go source (defer page i)))) u r
+  unfolding wordsAt
+  executed-all source k {t = t} {u = u} {r = r} e h p =
+      subst (λ (ws : List Shape). Passed image asked depth t (passesOf ws) u r) (ap₂ (λ (x : Span) (n : ℕ). executedTo image pc page i x n) e h) p
