@@ -3,3 +3,4 @@ pub mod Cells
 pub mod Mask
 pub mod Records
 pub mod Makes
+pub mod Overflow

@@ -26,7 +26,7 @@ pub record FineFacts (facts : List ℕ) : Type 0 where
   pub long : length facts ≡ factCount
   pub bounded : (k : ℕ) → getD facts k unknown ≤ unknown
 
-known-low : (f : ℕ) → f ≤ unknown → isKnown f ≡ true → f < 256
+pub known-low : (f : ℕ) → f ≤ unknown → isKnown f ≡ true → f < 256
 known-low f h k = let ne = eqb-false f unknown (not-true (eqb f unknown) k) in omega (arith, ne)
 
 -- ---- knows no more

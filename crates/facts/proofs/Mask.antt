@@ -4,17 +4,18 @@ use mathlib.Core.Bool.{Bool, true, false}
 use mathlib.Core.List.{List, [], _∷_, _++_, map}
 use Prim.Native.Nat.{ℕ, zero, suc, _+_, _*_, _/_, _%_, _^_, _<_, suc-le-suc}
 use native.Mathlib.Omega.{arith}
-use native.Mathlib.Nat.{zero-div, le-of-suc-le-suc, not-suc-le-zero, add-comm, add-zero, zero-add, add-suc, suc-add, suc-ne-zero, suc-inj}
+use native.Mathlib.Nat.{zero-div, le-of-eq, pow-suc, le-of-suc-le-suc, not-suc-le-zero, add-comm, add-zero, zero-add, add-suc, suc-add, suc-ne-zero, suc-inj}
 use native.Mathlib.Numerals.{one-add, add-four}
 use lib.Dec.{eqb}
 use lib.Pow.{shr-shr}
-use lib.ListN.{length, getD, length-append, length-map, List·getD-append}
+use lib.ListN.{length, getD, replicate, length-append, length-map, List·getD-append}
+use lib.Seq.{getD-at}
 use borrow.Author.Tests.{eqb-true}
 use Rattle.choice.specs.Choice.{pick}
 use Rattle.choice.proofs.Laws.{pick-cases}
 use Rattle.facts.specs.declared.Cell.{Cell}
 use Rattle.facts.specs.Facts.{factCount, unknown, isKnown}
-use Rattle.facts.specs.Record.{recordSize, cellOf, maskOf, valueByte, recordOf, factAt, factsFrom, readCell, FineCell}
+use Rattle.facts.specs.Record.{recordSize, cellOf, unreached, maskOf, valueByte, recordOf, factAt, factsFrom, readCell, FineCell}
 
 abbrev pub known-bit : ℕ → ℕ
 known-bit f = pick (isKnown f) 1 0
@@ -24,6 +25,12 @@ bit-small f = pick-cases (λ (x : ℕ). x < 2) (isKnown f) (λ e. omega arith) (
 
 half : (w m : ℕ) → w < 2 → (w + 2 * m) / 2 ≡ m
 half w m h = omega arith
+
+-- a bit for each fact
+pub mask-lt : (fs : List ℕ) → maskOf fs < 2 ^ length fs
+unfolding maskOf
+mask-lt [] = omega arith
+mask-lt (f ∷ fs) = let h = bit-small f in let m = mask-lt fs in omega (arith, pow-suc 2 (length fs))
 
 -- the bit of weight 2^k of the mask
 pub mask-bit : (fs : List ℕ) (k : ℕ) → maskOf fs / 2 ^ k % 2 ≡ known-bit (getD fs k unknown)
@@ -71,18 +78,56 @@ module _ (c : Cell) (finding : ℕ) (fine : FineCell c) where
   unfolding recordOf
   record-length = rw (length-append (map valueByte (c .facts)) (0 ∷ []), length-map (c .facts) valueByte, fine .facts)
 
-  fact-back : (k : ℕ) → k < factCount → factAt (recordOf c finding) k ≡ getD (c .facts) k unknown
+  -- its bytes: the first two, the mask, the values, the last
+  pub reached-at : eqb (getD (recordOf c finding) 0 0) 1 ≡ c .reached
   unfolding recordOf
-  fact-back k h =
+  reached-at = reached-back (c .reached)
+
+  pub finding-at : getD (recordOf c finding) 1 0 ≡ finding
+  unfolding recordOf
+  finding-at = refl
+
+  pub mask-at : getD (recordOf c finding) 2 0 + 256 * getD (recordOf c finding) 3 0 ≡ maskOf (c .facts)
+  unfolding recordOf
+  mask-at = joined (maskOf (c .facts))
+
+  pub value-at : (k : ℕ) → k < factCount → getD (recordOf c finding) (4 + k) 0 ≡ valueByte (getD (c .facts) k unknown)
+  unfolding recordOf
+  value-at k h =
       let inside : k < length (c .facts) = rw (fine .facts) h in
       let mapped : k < length (map valueByte (c .facts)) = rw (length-map (c .facts) valueByte) inside in
-      let value : getD (map valueByte (c .facts) ++ (0 ∷ [])) k 0 ≡ valueByte (getD (c .facts) k unknown) = List·getD-append (map valueByte (c .facts)) (0 ∷ []) 0 k mapped ∙ getD-map (c .facts) k inside in
-      rw (joined (maskOf (c .facts)), past (pick (c .reached) 1 0) finding (maskOf (c .facts) % 256) (maskOf (c .facts) / 256) (map valueByte (c .facts) ++ (0 ∷ [])) k, value, mask-bit (c .facts) k)
-      (back (getD (c .facts) k unknown))
+      past (pick (c .reached) 1 0) finding (maskOf (c .facts) % 256) (maskOf (c .facts) / 256) (map valueByte (c .facts) ++ (0 ∷ [])) k
+      ∙ List·getD-append (map valueByte (c .facts)) (0 ∷ []) 0 k mapped ∙ getD-map (c .facts) k inside
+
+  pub last-at : getD (recordOf c finding) 15 0 ≡ 0
+  unfolding recordOf
+  last-at = getD-at (map valueByte (c .facts)) 0 [] 0 factCount (length-map (c .facts) valueByte ∙ fine .facts)
+
+  fact-back : (k : ℕ) → k < factCount → factAt (recordOf c finding) k ≡ getD (c .facts) k unknown
+  fact-back k h = rw (mask-at, value-at k h, mask-bit (c .facts) k) (back (getD (c .facts) k unknown))
 
   pub read-back : readCell (recordOf c finding) ≡ c
   unfolding readCell recordOf
   read-back =
-      let r = reached-back (c .reached) in
+      let r = reached-at in
       let f : factsFrom (recordOf c finding) 0 factCount ≡ c .facts = facts-from (recordOf c finding) 0 factCount (c .facts) (fine .facts) (λ k h. rw zero-add (fact-back k h)) in
       λ i. cellOf (r i) (f i)
+
+-- ---- a cell that is not reached
+
+pub unreached-fine : FineCell unreached
+unreached-fine = record { facts = refl; bounded = λ k. le-of-eq (replicate-at factCount k unknown); blank = λ e. refl }
+  where
+    replicate-at : (n k a : ℕ) → getD (replicate n a) k a ≡ a
+    replicate-at zero k a = refl
+    replicate-at (suc n) zero a = refl
+    replicate-at (suc n) (suc k) a = replicate-at n k a
+
+-- its record is all zero
+pub zeros-record : recordOf unreached 0 ≡ replicate recordSize 0
+unfolding recordOf maskOf
+zeros-record = refl
+
+pub zeros-read : readCell (replicate recordSize 0) ≡ unreached
+unfolding readCell
+zeros-read = refl
