@@ -6,3 +6,4 @@ pub mod TableLaws
 pub mod LeastTable
 pub mod Numbers
 pub mod First
+pub mod Overflow

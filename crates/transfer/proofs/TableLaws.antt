@@ -13,7 +13,7 @@ use borrow.Author.Tests.{ltb-true}
 use Rattle.choice.specs.Choice.{pick}
 use Rattle.choice.proofs.Laws.{and-both, and-first, and-second}
 use Rattle.state.specs.State.{stackPlaces}
-use Rattle.machine.specs.Shape.{jump, branch, defer, call, return, Shape, act, go, invalid}
+use Rattle.machine.specs.Shape.{Source, Target, jump, branch, defer, call, return, Shape, act, go, invalid}
 use Rattle.machine.specs.Step.{wordCount, shapeAt, inPage}
 use Rattle.flow.specs.Flow.{Pass, Below, Least, sumWeights}
 use Rattle.flow.proofs.Each.{Each, none, also, each-append}
@@ -23,8 +23,9 @@ use Rattle.flow.proofs.Weights.{sumWeights-bound}
 use Rattle.flow.proofs.Fixpoint.{Begins, begins-empty, sweeps-least}
 use Rattle.facts.specs.declared.Cell.{Cell}
 use Rattle.facts.specs.Facts.{unknown, spanOf, mayBeZero, mayBeOther, factsAfter, allKnowNoMore}
-use Rattle.facts.specs.Record.{recordSize, depths, cellOf, unreached, resetCell, holdsCell, recordOf, maskOf, readCell, cellAt, putCell, FineCell, Layout}
+use Rattle.facts.specs.Record.{recordSize, depths, cellOf, unreached, resetCell, holdsCell, recordOf, readCell, cellAt, putCell, FineCell, Layout}
 use Rattle.facts.proofs.Cells.{holds-refl, holds-trans, holds-antisym, join-holds-left, join-holds-right, join-held, join-fine, join-falls, weight-bound, reached-above, known-above}
+use Rattle.facts.proofs.Mask.{unreached-fine, zeros-record, zeros-read}
 use Rattle.facts.proofs.Records.{part, part-at, part-length, stored-cell, other-cell, put-layout, same-table}
 use Rattle.facts.proofs.Makes.{FineFacts, after-fine}
 use Rattle.transfer.specs.Passes.{pointAt, toward, isReturn, isCall, wordsAt, some, wordPasses, allPasses, isCallSite, returnPasses, cellPasses, passesFrom, tableSpace, tableLength, startTable, sweepBound, leastTable}
@@ -32,15 +33,10 @@ use Rattle.transfer.proofs.Membership.{each-left, each-right, each-pick
 use Rattle.machine.proofs.InRange.{ShapeInRange, shape-at-in-range}
 use Rattle.transfer.proofs.Wider.{words-wider, words-fit, some-wider, toward-wider, word-wider, passes-at, passes-from}
 
-replicate-at : (n k a : ℕ) → getD (replicate n a) k a ≡ a
-replicate-at zero k a = refl
-replicate-at (suc n) zero a = refl
-replicate-at (suc n) (suc k) a = replicate-at n k a
-
-fine-facts : (c : Cell) → FineCell c → FineFacts (c .facts)
+pub fine-facts : (c : Cell) → FineCell c → FineFacts (c .facts)
 fine-facts c f = record { long = f .facts; bounded = f .bounded }
 
-reached-fine : (fs : List ℕ) → FineFacts fs → FineCell (cellOf true fs)
+pub reached-fine : (fs : List ℕ) → FineFacts fs → FineCell (cellOf true fs)
 reached-fine fs f = record { facts = f .long; bounded = f .bounded; blank = λ e. absurd (false≢true (sym e)) }
 
 -- a cell's depth and address
@@ -55,41 +51,78 @@ nothing : (c : Cell) → holdsCell c unreached ≡ true
 unfolding holdsCell
 nothing c = refl
 
+-- ---- a table of zeros: no cell is reached
+
+zeros-part : (n i : ℕ) → i < n → part (replicate (recordSize * n) 0) i ≡ replicate recordSize 0
+zeros-part n i l =
+    let long = part-length (replicate (recordSize * n) 0) n i (length-replicate (recordSize * n) 0) l in
+    ext-getD 0 (part (replicate (recordSize * n) 0) i) (replicate recordSize 0) long
+    (λ r h.
+    let small : r < recordSize = subst (λ (z : ℕ). r < z) long h in
+    part-at (replicate (recordSize * n) 0) i r small ∙ getD-replicate (recordSize * n) (recordSize * i + r) 0 0 (omega arith) ∙ sym (getD-replicate recordSize r 0 0 small))
+
+pub zeros-cell : (n i : ℕ) → i < n → cellAt (replicate (recordSize * n) 0) i ≡ unreached
+unfolding cellAt
+zeros-cell n i l = ap readCell (zeros-part n i l) ∙ zeros-read
+
+pub zeros-layout : (n : ℕ) → Layout n (replicate (recordSize * n) 0)
+zeros-layout n =
+    record {
+      long = length-replicate (recordSize * n) 0;
+      records = λ i l. zeros-part n i l ∙ sym (ap (λ (c : Cell). recordOf c 0) (zeros-cell n i l) ∙ zeros-record);
+      fine = λ i l. rw (zeros-cell n i l) unreached-fine;
+    }
+
+pub reset-fine : FineCell resetCell
+reset-fine = record { facts = refl; bounded = λ k. zero-low 11 k; blank = λ e. absurd (false≢true (sym e)) }
+  where
+    zero-low : (n k : ℕ) → getD (replicate n 0) k unknown ≤ unknown
+    zero-low zero k = le-of-eq refl
+    zero-low (suc n) zero = omega arith
+    zero-low (suc n) (suc k) = zero-low n k
+
 module _ (image : List ℕ) (bytes : (k : ℕ) → getD image k 0 < 256) where
-  abbrev Fit : Pass Cell → Type 0
-  Fit = Fits (tableSpace image) FineCell
+  -- ---- passes go to cells of the table, and what words keep of facts holds of what is passed on
 
-  -- ---- passes go to cells of the table
+  module _ (F : List ℕ → Type 0) (Fine : Cell → Type 0) (reached : (fs : List ℕ) → F fs → Fine (cellOf true fs))
+      (after : (source : Source) (op : ℕ) (target : Target) (fs : List ℕ) → ShapeInRange (act source op target) → F fs → F (factsAfter source op target fs)) where
+    abbrev Fit : Pass Cell → Type 0
+    Fit = Fits (tableSpace image) Fine
 
-  toward-fits : (depth a : ℕ) (fs : List ℕ) → depth < depths → FineFacts fs → Each Fit (toward (wordCount image) depth a fs)
-  toward-fits depth a fs d f =
-      each-pick (ltb a (wordCount image))
-      (λ h. also (record { inside = digits-lt d (ltb-true a (wordCount image) h); fine = reached-fine fs f }) none)
+    toward-fits : (depth a : ℕ) (fs : List ℕ) → depth < depths → F fs → Each Fit (toward (wordCount image) depth a fs)
+    toward-fits depth a fs d f =
+        each-pick (ltb a (wordCount image))
+        (λ h. also (record { inside = digits-lt d (ltb-true a (wordCount image) h); fine = reached fs f }) none)
 
-  word-fits : (depth pc : ℕ) (fs : List ℕ) (w : Shape) → ShapeInRange w → depth < depths → FineFacts fs → Each Fit (wordPasses (wordCount image) depth pc fs w)
-  unfolding wordPasses
-  word-fits depth pc fs (act source op target) s d f = toward-fits depth (pc + 1) (factsAfter source op target fs) d (after-fine source op target fs (s .0) f)
-  word-fits depth pc fs (go source (jump a)) s d f = toward-fits depth a fs d f
-  word-fits depth pc fs (go source (branch page i)) s d f =
-      each-append (each-pick (mayBeZero (spanOf source fs)) (λ z. toward-fits depth (pc + 1) fs d f))
-      (each-pick (mayBeOther (spanOf source fs)) (λ z. toward-fits depth (inPage page pc i) fs d f))
-  word-fits depth pc fs (go source (defer page i)) s d f = none
-  word-fits depth pc fs (go source (call i)) s d f =
-      each-pick (ltb depth stackPlaces)
-      (λ h.
-      let deeper : depth + 1 < depths = let l = ltb-true depth stackPlaces h in omega arith in
-      over-each (spanOf source fs .low) (spanOf source fs .count) (λ v. true) (λ v. toward (wordCount image) (depth + 1) (v * 256 + i) fs)
-      (λ v low high t. toward-fits (depth + 1) (v * 256 + i) fs deeper f))
-  word-fits depth pc fs (go source return) s d f = none
-  word-fits depth pc fs invalid s d f = none
+    word-fits : (depth pc : ℕ) (fs : List ℕ) (w : Shape) → ShapeInRange w → depth < depths → F fs → Each Fit (wordPasses (wordCount image) depth pc fs w)
+    unfolding wordPasses
+    word-fits depth pc fs (act source op target) s d f = toward-fits depth (pc + 1) (factsAfter source op target fs) d (after source op target fs s f)
+    word-fits depth pc fs (go source (jump a)) s d f = toward-fits depth a fs d f
+    word-fits depth pc fs (go source (branch page i)) s d f =
+        each-append (each-pick (mayBeZero (spanOf source fs)) (λ z. toward-fits depth (pc + 1) fs d f))
+        (each-pick (mayBeOther (spanOf source fs)) (λ z. toward-fits depth (inPage page pc i) fs d f))
+    word-fits depth pc fs (go source (defer page i)) s d f = none
+    word-fits depth pc fs (go source (call i)) s d f =
+        each-pick (ltb depth stackPlaces)
+        (λ h.
+        let deeper : depth + 1 < depths = let l = ltb-true depth stackPlaces h in omega arith in
+        over-each (spanOf source fs .low) (spanOf source fs .count) (λ v. true) (λ v. toward (wordCount image) (depth + 1) (v * 256 + i) fs)
+        (λ v low high t. toward-fits (depth + 1) (v * 256 + i) fs deeper f))
+    word-fits depth pc fs (go source return) s d f = none
+    word-fits depth pc fs invalid s d f = none
 
-  cell-fits : (t : List ℕ) (depth pc : ℕ) (fs : List ℕ) → depth < depths → FineFacts fs → Each Fit (cellPasses image t depth pc fs)
-  cell-fits t depth pc fs d f =
-      each-append
-      (passes-from image t (wordCount image) depth pc fs (wordsAt image pc fs (shapeAt image pc))
-      (λ w i. word-fits depth pc fs w (words-fit image bytes pc (shapeAt image pc) fs (shape-at-in-range image bytes pc) i) d f))
-      (each-pick (ltb 0 depth && some isReturn (wordsAt image pc fs (shapeAt image pc)))
-      (λ h. down-each (wordCount image) (isCallSite image t (depth - 1)) (λ a. toward (wordCount image) (depth - 1) (a + 1) fs) (λ a l s. toward-fits (depth - 1) (a + 1) fs (omega arith) f)))
+    cell-fits : (t : List ℕ) (depth pc : ℕ) (fs : List ℕ) → depth < depths → F fs → Each Fit (cellPasses image t depth pc fs)
+    cell-fits t depth pc fs d f =
+        each-append
+        (passes-from image t (wordCount image) depth pc fs (wordsAt image pc fs (shapeAt image pc))
+        (λ w i. word-fits depth pc fs w (words-fit image bytes pc (shapeAt image pc) fs (shape-at-in-range image bytes pc) i) d f))
+        (each-pick (ltb 0 depth && some isReturn (wordsAt image pc fs (shapeAt image pc)))
+        (λ h. down-each (wordCount image) (isCallSite image t (depth - 1)) (λ a. toward (wordCount image) (depth - 1) (a + 1) fs) (λ a l s. toward-fits (depth - 1) (a + 1) fs (omega arith) f)))
+
+    pub passes-fit : (t : List ℕ) (i : ℕ) → i < depths * wordCount image → F (cellAt t i .facts) → Each (Fits (tableSpace image) Fine) (passesFrom image t i)
+    passes-fit t i l f =
+        each-pick (cellAt t i .reached)
+        (λ r. cell-fits t (i / wordCount image) (i % wordCount image) (cellAt t i .facts) (depth-of i (wordCount image) l) f)
 
   -- ---- a higher table holds what a cell of a lower one passes on
 
@@ -141,7 +174,7 @@ module _ (image : List ℕ) (bytes : (k : ℕ) → getD image k 0 < 256) where
         join-right = λ a b fa fb. join-holds-right a b;
         join-least = λ a b c fa fb fc p q. join-held a b c p q;
         weight-falls = λ a b fa fb e. join-falls a b fb e;
-        pass-fits = λ t i g l. each-pick (cellAt t i .reached) (λ r. cell-fits t (i / wordCount image) (i % wordCount image) (cellAt t i .facts) (depth-of i (wordCount image) l) (fine-facts (cellAt t i) (g .fine i l)));
+        pass-fits = λ t i g l. passes-fit FineFacts FineCell reached-fine (λ source op target fs s f. after-fine source op target fs (s .0) f) t i l (fine-facts (cellAt t i) (g .fine i l));
         pass-monotone = λ t u i g k l b h. covered-each (tableSpace image) u (passesFrom image t i)
             (each-pick (cellAt t i .reached)
             (λ r.
@@ -152,39 +185,6 @@ module _ (image : List ℕ) (bytes : (k : ℕ) → getD image k 0 < 256) where
       }
 
   -- ---- the least table
-
-  -- a table of zeros: no cell is reached
-  zeros-part : (n i : ℕ) → i < n → part (replicate (recordSize * n) 0) i ≡ replicate recordSize 0
-  zeros-part n i l =
-      let long = part-length (replicate (recordSize * n) 0) n i (length-replicate (recordSize * n) 0) l in
-      ext-getD 0 (part (replicate (recordSize * n) 0) i) (replicate recordSize 0) long
-      (λ r h.
-      let small : r < recordSize = subst (λ (z : ℕ). r < z) long h in
-      part-at (replicate (recordSize * n) 0) i r small ∙ getD-replicate (recordSize * n) (recordSize * i + r) 0 0 (omega arith) ∙ sym (getD-replicate recordSize r 0 0 small))
-
-  zeros-cell : (n i : ℕ) → i < n → cellAt (replicate (recordSize * n) 0) i ≡ unreached
-  unfolding cellAt readCell
-  zeros-cell n i l = ap readCell (zeros-part n i l)
-
-  unreached-fine : FineCell unreached
-  unreached-fine = record { facts = refl; bounded = λ k. le-of-eq (replicate-at 11 k unknown); blank = λ e. refl }
-
-  zeros-layout : (n : ℕ) → Layout n (replicate (recordSize * n) 0)
-  unfolding recordOf maskOf
-  zeros-layout n =
-      record {
-        long = length-replicate (recordSize * n) 0;
-        records = λ i l. zeros-part n i l ∙ sym (ap (λ (c : Cell). recordOf c 0) (zeros-cell n i l));
-        fine = λ i l. rw (zeros-cell n i l) unreached-fine;
-      }
-
-  reset-fine : FineCell resetCell
-  reset-fine = record { facts = refl; bounded = λ k. zero-low 11 k; blank = λ e. absurd (false≢true (sym e)) }
-    where
-      zero-low : (n k : ℕ) → getD (replicate n 0) k unknown ≤ unknown
-      zero-low zero k = le-of-eq refl
-      zero-low (suc n) zero = omega arith
-      zero-low (suc n) (suc k) = zero-low n k
 
   pub start-begins : 0 < wordCount image → Begins (tableSpace image) (Layout (depths * wordCount image)) FineCell resetCell (startTable image)
   start-begins some =
