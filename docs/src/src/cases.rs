@@ -12,6 +12,7 @@
 //!   bytes, high byte first; words that are invalid are left out
 
 pub mod admissions;
+pub mod holds;
 pub mod library;
 pub mod pages;
 pub mod runs;

@@ -5,6 +5,7 @@
 
 pub mod bench;
 pub mod cases;
+pub mod check;
 pub mod digest;
 pub mod direct;
 pub mod listing;

@@ -1,7 +1,8 @@
 //! The table once more, by another method: starting from nothing, each round
 //! makes a new table from what all cells of the old one pass on, until a round
 //! gives the table it came from. A finding is the lowest of all complaints.
-//! Sweeps are counted by the tables that they leave.
+//! Sweeps are counted by the tables that they leave, and a table that came along
+//! is checked by joining in what its cells pass on, which must leave it as it is.
 //! Works on the bits of raw words and shares no code with the sweeps, so that
 //! agreement says something.
 
@@ -337,16 +338,63 @@ pub fn table_bytes(words: &[u16], map: &[u8]) -> Vec<u8> {
     }
     let mut bytes = Vec::new();
     for (index, cell) in program.old.iter().enumerate() {
-        let mut record = [0; 16];
+        let mut record = written(cell);
         if let Some(facts) = cell {
-            record[0] = 1;
             record[1] = program.finding(map, index / words.len(), index % words.len(), facts);
-            record[4..15].copy_from_slice(&facts.1);
-            for k in 0..11 {
-                record[2 + k / 8] |= u8::from(facts.0[k]) << (k % 8);
-            }
         }
         bytes.extend(record);
     }
     bytes
+}
+
+/// The record of a cell, without its finding.
+fn written(cell: &Option<Facts>) -> [u8; 16] {
+    let mut record = [0; 16];
+    if let Some(facts) = cell {
+        record[0] = 1;
+        record[4..15].copy_from_slice(&facts.1);
+        for k in 0..11 {
+            record[2 + k / 8] |= u8::from(facts.0[k]) << (k % 8);
+        }
+    }
+    record
+}
+
+/// The cell of a record, whatever else the record has.
+fn taken(record: &[u8]) -> Option<Facts> {
+    let (mut known, mut values) = ([false; 11], [0; 11]);
+    for k in 0..11 {
+        known[k] = record[2 + k / 8] >> (k % 8) & 1 == 1;
+        values[k] = if known[k] { record[4 + k] } else { 0 };
+    }
+    (record[0] != 0).then_some((known, values))
+}
+
+/// Number, depth and address that the check of a table gives, all 0 where it is
+/// accepted (2026-09), for bytes of the right lengths. A record has the layout
+/// when its cell is written back as the same bytes, with OVF at most 1.
+pub fn check(words: &[u16], map: &[u8], table: &[u8]) -> (u8, usize, usize) {
+    let count = words.len();
+    let named = |number, index| (number, index / count, index % count);
+    let old: Cells = table.chunks(16).map(taken).collect();
+    let unlike = |index: usize| written(&old[index]) != table[16 * index..][..16];
+    if let Some(index) = (0..old.len()).find(|&index| unlike(index) || table[16 * index + 12] > 1) {
+        return named(42, index);
+    }
+    let mut joined = old[0];
+    widen(&mut joined, &([true; 11], [0; 11]));
+    if old[0].is_none() || joined != old[0] {
+        return named(43, 0);
+    }
+    let program = Program { words: words.to_vec(), old };
+    for (index, cell) in program.old.iter().enumerate() {
+        let Some(facts) = cell else { continue };
+        let number = program.finding(map, index / count, index % count, facts);
+        let mut new = program.old.clone();
+        program.pass_all(&mut new, index);
+        if number != 0 || new != program.old {
+            return named(if number != 0 { number } else { 43 }, index);
+        }
+    }
+    (0, 0, 0)
 }

@@ -60,6 +60,12 @@ impl Table {
         }
         *cell != old
     }
+
+    /// The bytes of the table, every finding 0.
+    pub fn bytes(&self) -> Vec<u8> {
+        let bytes = |cell: &Option<Facts>| cell.map_or([0; RECORD_BYTES], |f| record(&f, 0));
+        self.cells.iter().flat_map(bytes).collect()
+    }
 }
 
 /// A state that holds the known values, zero where unknown.
@@ -117,10 +123,10 @@ fn executed_addresses(word: Word, pc: usize, facts: &Facts) -> Vec<usize> {
 }
 
 /// Image, map and table, as the questions need them.
-struct Analysis<'a> {
-    image: Image<'a>,
-    map: Map<'a>,
-    table: Table,
+pub(crate) struct Analysis<'a> {
+    pub(crate) image: Image<'a>,
+    pub(crate) map: Map<'a>,
+    pub(crate) table: Table,
 }
 
 impl Analysis<'_> {
@@ -191,7 +197,12 @@ impl Analysis<'_> {
     }
 
     /// All that a reached cell passes on: depth, address below N, facts.
-    fn passes(&self, depth: usize, address: usize, facts: &Facts) -> Vec<(usize, usize, Facts)> {
+    pub(crate) fn passes(
+        &self,
+        depth: usize,
+        address: usize,
+        facts: &Facts,
+    ) -> Vec<(usize, usize, Facts)> {
         let mut passed = Vec::new();
         for word in self.executed_words(address, facts) {
             let after = facts_after(word, facts);
@@ -266,7 +277,7 @@ impl Analysis<'_> {
     }
 
     /// The finding of a reached cell, or 0.
-    fn finding(&self, depth: usize, address: usize, facts: &Facts) -> u8 {
+    pub(crate) fn finding(&self, depth: usize, address: usize, facts: &Facts) -> u8 {
         let own = self.image.at(address).unwrap_or(Word::Invalid);
         let number = self.word_finding(own, depth, address, facts);
         if number != 0 {
@@ -325,19 +336,22 @@ pub struct Admission {
 
 /// The least table by sweeps and the count of sweeps that changed it.
 pub fn least_table(image: &[u8], map: &[u8]) -> Result<(Table, usize), u8> {
-    let (analysis, sweeps) = analyse(image, map)?;
+    swept(image, map, Table::start(Image::new(image)?.words()))
+}
+
+/// A table after sweeps, until none changes it, and the count of those that did.
+pub fn swept(image: &[u8], map: &[u8], table: Table) -> Result<(Table, usize), u8> {
+    let (analysis, sweeps) = analyse(Image::new(image)?, Map::new(map)?, table);
     Ok((analysis.table, sweeps))
 }
 
-fn analyse<'a>(image: &'a [u8], map: &'a [u8]) -> Result<(Analysis<'a>, usize), u8> {
-    let image = Image::new(image)?;
-    let map = Map::new(map)?;
-    let mut analysis = Analysis { image, map, table: Table::start(image.words()) };
+fn analyse<'a>(image: Image<'a>, map: Map<'a>, table: Table) -> (Analysis<'a>, usize) {
+    let mut analysis = Analysis { image, map, table };
     let mut sweeps = 0;
     while analysis.sweep() {
         sweeps += 1;
     }
-    Ok((analysis, sweeps))
+    (analysis, sweeps)
 }
 
 /// The length of an image's table.
@@ -352,20 +366,30 @@ pub fn foretell(image: &[u8]) -> Result<(usize, usize), u8> {
     Ok((table_bytes(image), WORD_SWEEPS * image.words()))
 }
 
-/// Fills the table's bytes and says whether the program is admitted. Checks
-/// 11, 12, 13 in this order; a refusal changes nothing and counts 0 sweeps.
+/// Checks 11, 12, 13 in this order.
+pub(crate) fn door<'a>(
+    image: &'a [u8],
+    map: &'a [u8],
+    table: &[u8],
+) -> Result<(Image<'a>, Map<'a>), u8> {
+    let image = Image::new(image)?;
+    let map = Map::new(map)?;
+    if table.len() == table_bytes(image) {
+        Ok((image, map))
+    } else {
+        Err(13)
+    }
+}
+
+/// Fills the table's bytes and says whether the program is admitted. A refusal
+/// at the door changes nothing and counts 0 sweeps.
 pub fn admit(image: &[u8], map: &[u8], table: &mut [u8]) -> Admission {
-    let checked = Image::new(image).and_then(|image| {
-        Map::new(map)?;
-        if table.len() == table_bytes(image) {
-            Ok(())
-        } else {
-            Err(13)
-        }
-    });
-    match checked.and_then(|()| analyse(image, map)) {
+    match door(image, map, table) {
         Err(number) => Admission { verdict: Verdict::Refused(number), sweeps: 0 },
-        Ok((analysis, sweeps)) => Admission { verdict: write_table(&analysis, table), sweeps },
+        Ok((image, map)) => {
+            let (analysis, sweeps) = analyse(image, map, Table::start(image.words()));
+            Admission { verdict: write_table(&analysis, table), sweeps }
+        }
     }
 }
 

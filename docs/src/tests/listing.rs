@@ -421,7 +421,7 @@ fn stored_calls_are_met() {
         std::fs::read_to_string(&path).expect(name)
     };
     let (given, gives) = (file("stdin"), file("stdout"));
-    assert!(given.len() < 60_000, "{}", given.len());
+    assert!(given.len() < 65_000, "{}", given.len());
     let mut outputs = gives.lines().skip_while(|line| !line.starts_with("list "));
     let mut counts = HashMap::new();
     for line in given.lines().skip_while(|line| !line.starts_with("list ")) {

@@ -1,7 +1,7 @@
 //! Calls of the functions that the library exports, with the numbers that they
 //! give as `include/riptide.h` packs them, and digests of the bytes lent to them.
 
-use super::{admissions, pages, runs, Bytes, Entry, ALL_ONES, FILLER};
+use super::{admissions, holds, pages, runs, Bytes, Entry, ALL_ONES, FILLER};
 use crate::digest::Digest;
 use crate::machine::reset;
 use crate::map::counts;
@@ -275,5 +275,5 @@ fn ran() -> Vec<Entry> {
 /// All calls.
 pub fn entries() -> Vec<Entry> {
     let calls = [decoded(), encoded(), counted(), states(), admitted(), foretold(), ran()];
-    [vec![all_words()], calls.concat(), pages::entries()].concat()
+    [vec![all_words()], calls.concat(), holds::entries(), pages::entries()].concat()
 }
