@@ -2,9 +2,8 @@
 use mathlib.Core.Path.{_≡_, sym, _∙_, ap, ap₂, subst, subst⁻¹}
 use mathlib.Core.Logic.{_≢_}
 use mathlib.Core.List.{List}
-use Prim.Native.Nat.{ℕ, suc, _+_, _*_, _≤_, _<_}
+use Prim.Native.Nat.{ℕ, _+_, _*_, _≤_, _<_}
 use native.Mathlib.Omega.{arith}
-use native.Mathlib.Nat.{suc-mul, mul-le-mul-right}
 use lib.Arith.{digits-lt}
 use lib.Dec.{eqb}
 use lib.ListN.{length}
@@ -13,6 +12,7 @@ use Rattle.machine.specs.Step.{wordCount}
 use Rattle.facts.specs.declared.Cell.{Cell}
 use Rattle.facts.specs.Record.{recordSize, depths, recordOf, cellAt, putRecord, FineCell}
 use Rattle.callers.specs.Callers.{Held}
+use Rattle.callers.proofs.Points.{past-all}
 use Rattle.transfer.specs.Passes.{pointAt}
 use Rattle.transfer.specs.Findings.{findingAt}
 use Rattle.admission.specs.declared.AdmitAnswer.the-variants.{Admitted, Found}
@@ -37,20 +37,6 @@ module _ (image table : List ℕ) (held : Held image table) (depth pc : ℕ) (d 
 pub stored-so : (image map t u : List ℕ) (i : ℕ) (c : Cell) (f r : ℕ) → f ≡ findingAt image map t i → c ≡ cellAt t i
     → u ≡ putRecord t i (recordOf c f) → r ≡ f → (r ≡ findingAt image map t i) × (u ≡ putRecord t i (recordOf (cellAt t i) r))
 stored-so image map t u i c f r ef ec e er = (er ∙ ef, e ∙ ap₂ (λ (x : Cell) (n : ℕ). putRecord t i (recordOf x n)) ec (sym er))
-
--- ---- the next cell
-
-pub next-address : (words depth pc : ℕ) → pointAt words depth (pc + 1) ≡ pointAt words depth pc + 1
-next-address words depth pc = omega arith
-
-pub next-depth : (words depth pc : ℕ) → pc + 1 ≡ words → pointAt words (depth + 1) 0 ≡ pointAt words depth pc + 1
-next-depth words depth pc e =
-    let one : depth + 1 ≡ suc depth = omega arith in
-    let row : (depth + 1) * words ≡ depth * words + words = ap (λ (d : ℕ). d * words) one ∙ suc-mul depth words in
-    omega arith
-
-past-all : (words depth pc : ℕ) → depths ≤ depth → depths * words ≤ pointAt words depth pc
-past-all words depth pc h = let row : depths * words ≤ depth * words = mul-le-mul-right words h in omega arith
 
 -- ---- the loop
 

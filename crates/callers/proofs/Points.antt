@@ -26,3 +26,13 @@ module _ (n depth a : ℕ) (h : a < n) where
 
   pub point-address : (depth * n + a) % n ≡ a
   point-address = ap (λ m. m % n) {x = depth * n + a} {y = a + depth * n} (omega arith) ∙ add-mul-mod-self-right a depth n ∙ mod-eq-of-lt h
+
+-- ---- the next cell, in table order
+pub next-address : (n depth a : ℕ) → depth * n + (a + 1) ≡ depth * n + a + 1
+next-address n depth a = omega arith
+
+pub next-depth : (n depth a : ℕ) → a + 1 ≡ n → (depth + 1) * n + 0 ≡ depth * n + a + 1
+next-depth n depth a e = omega arith
+
+pub past-all : (n depth a : ℕ) → 9 ≤ depth → 9 * n ≤ depth * n + a
+past-all n depth a h = let row : 9 * n ≤ depth * n = mul-le-mul h (le-refl n) in omega arith

@@ -1,5 +1,5 @@
 -- A sweep on its way, cell by cell: the next one is at a depth and an address.
-use mathlib.Core.Path.{_≡_, subst}
+use mathlib.Core.Path.{_≡_, sym, subst}
 use mathlib.Core.Bool.{Bool, false, _||_}
 use mathlib.Core.List.{List}
 use Prim.Native.Nat.{ℕ, _+_, _-_, _*_, _≤_, _<_}
@@ -9,12 +9,8 @@ use Rattle.flow.specs.Flow.{turn, turnChanges, sweep, sweepChanges}
 use Rattle.flow.proofs.Loops.{Sweeping, sweeping-begins, sweeping-turn, sweeping-table, sweeping-flag}
 use Rattle.facts.specs.Record.{depths}
 use Rattle.transfer.specs.Passes.{pointAt, tableSpace}
-use Rattle.callers.proofs.Points.{point-inside}
+use Rattle.callers.proofs.Points.{point-inside, next-depth, next-address}
 use Rattle.passing.specs.Passing.{Laid}
-
--- the next place after a depth's last one
-pub next-depth : (n depth pc : ℕ) → pc + 1 ≡ n → depth * n + pc + 1 ≡ (depth + 1) * n + 0
-next-depth n depth pc e = omega arith
 
 module _ (image t₀ : List ℕ) where
   pub record Round (depth pc : ℕ) (t : List ℕ) (f : Bool) : Type 0 where
@@ -42,12 +38,11 @@ module _ (image t₀ : List ℕ) where
     -- at the same depth; at the next one
     pub round-on : (pc + 1 ≡ wordCount image → ⊥) → Round depth (pc + 1) u (f || r)
     round-on ne =
-        let next : pointAt (wordCount image) depth pc + 1 ≡ pointAt (wordCount image) depth (pc + 1) = omega arith in
         record {
           deep = omega arith;
           inside = omega (arith, ne, b .inside);
           laid = g;
-          sweeping = subst (λ (i : ℕ). Sweeping (tableSpace image) t₀ i u (f || r)) next turned;
+          sweeping = subst (λ (i : ℕ). Sweeping (tableSpace image) t₀ i u (f || r)) (sym (next-address (wordCount image) depth pc)) turned;
         }
 
     pub round-down : pc + 1 ≡ wordCount image → Round (depth + 1) 0 u (f || r)
@@ -56,7 +51,7 @@ module _ (image t₀ : List ℕ) where
           deep = omega arith;
           inside = omega (arith, b .inside);
           laid = g;
-          sweeping = subst (λ (i : ℕ). Sweeping (tableSpace image) t₀ i u (f || r)) (next-depth (wordCount image) depth pc last) turned;
+          sweeping = subst (λ (i : ℕ). Sweeping (tableSpace image) t₀ i u (f || r)) (sym (next-depth (wordCount image) depth pc last)) turned;
         }
 
   -- what is left gets less

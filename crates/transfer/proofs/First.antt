@@ -50,3 +50,19 @@ module _ (number : ℕ → ℕ) where
       told true w c v = let l = ltb-true j k w in let b = first i n in absurd (a .found (omega (arith, b .most)) (b .lower j (a .least) l))
       told false w true v = let l = ltb-true k j v in let b = first i n in absurd (b .found (omega (arith, a .most)) (a .lower k (b .least) l))
       told false w false v = let l = ltb-false j k w in let m = ltb-false k j v in omega arith
+
+  -- a scan from the first place on: no place before i has a number
+  abbrev pub NoneBefore : ℕ → Type 0
+  NoneBefore i = (k : ℕ) → k < i → number k ≡ 0
+
+  pub none-before : NoneBefore 0
+  none-before k l = absurd (omega arith)
+
+  pub none-yet : (i : ℕ) → NoneBefore i → number i ≡ 0 → NoneBefore (i + 1)
+  none-yet i none z k l = same-or k i (λ q. ap number q ∙ z) (λ q. none k (omega arith))
+
+  pub first-here : (i n : ℕ) → i < n → NoneBefore i → number i ≢ 0 → firstOf number 0 n ≡ i
+  first-here i n l none some = first-at 0 n (record { least = omega arith; most = omega arith; found = λ _. some; lower = λ k _ h. none k h })
+
+  pub first-none : (n : ℕ) → NoneBefore n → firstOf number 0 n ≡ n
+  first-none n none = first-at 0 n (record { least = omega arith; most = omega arith; found = λ l. absurd (omega arith); lower = λ k _ h. none k h })

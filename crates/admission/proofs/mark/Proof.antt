@@ -8,7 +8,8 @@ use borrow.Author.Needs.{needs}
 use Rattle.machine.specs.Step.{wordCount}
 use Rattle.facts.specs.Record.{depths}
 use Rattle.transfer.specs.Passes.{pointAt}
-use Rattle.admission.proofs.Marks.{next-address, next-depth, Marks, marks-begin, marks-held, marks-next, marks-end, marks-admitted, marks-found}
+use Rattle.callers.proofs.Points.{next-address, next-depth}
+use Rattle.admission.proofs.Marks.{Marks, marks-begin, marks-held, marks-next, marks-end, marks-admitted, marks-found}
 use Rattle.admission.proofs.mark.Statement.{statement}
 use Rattle.admission.proofs.mark.Tie as tie
 

@@ -1,0 +1,4 @@
+pub mod Scanning
+pub mod Faults
+pub mod Judging
+pub mod Accepting
