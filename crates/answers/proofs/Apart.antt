@@ -28,7 +28,8 @@ use Rattle.admission.proofs.Range.{Ranged, answer-ranged}
 use Rattle.foretell.specs.declared.ForetellAnswer.{ForetellAnswer}
 use Rattle.foretell.specs.declared.ForetellAnswer.the-variants.{Refused as NotForetold, Foretold}
 use Rattle.foretell.specs.Foretell.{foretold, boundOf}
-use Rattle.listing.specs.Listing.{lineLength, ListResult, pageRefused, wholePage, listResult}
+use Rattle.columns.specs.Line.{lineLength}
+use Rattle.listing.specs.Listing.{ListResult, pageRefused, wholePage, listResult}
 use Rattle.numbers.specs.Words.{bitsFrom, numberIn}
 use Rattle.numbers.proofs.Words.{part-apart}
 use Rattle.answers.specs.Numbers.{setsNumber, countNumber, verdictNumber, admitNumber, foretellNumber, runNumber}

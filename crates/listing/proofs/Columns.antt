@@ -12,9 +12,11 @@ use Rattle.emulator.proofs.Door.{image-words}
 use Rattle.text.specs.Text.{octal, joined}
 use Rattle.text.proofs.Writing.{length-octal, eight-more, eights}
 use Rattle.mnemonics.proofs.Laws.{layout-fits, layout-shown, mnemonic-long, operands-filled}
-use Rattle.listing.specs.Listing.{lineTexts, pageLine, lineLength, linesBelow}
+use Rattle.columns.specs.Line.{lineTexts, pageLine, lineLength}
+use Rattle.columns.proofs.Laws.{below-or-last, placeOf, text-at, line-long}
+use Rattle.listing.specs.Listing.{linesBelow}
 use Rattle.listing.specs.Columns.{columns, lineAt, octalOn, octalIn, LayoutFits, EveryLayoutFits, LineLaid, EveryLineLaid, LineAlone, ReadsBack}
-use Rattle.listing.proofs.Laws.{below-or-last, placeOf, text-at, line-long, lines-long}
+use Rattle.listing.proofs.Laws.{lines-long}
 
 -- ---- the columns of a line
 

@@ -10,7 +10,8 @@ use Rattle.machine.specs.Step.{wordCount, wordAt}
 use Rattle.emulator.specs.Run.{imageFits}
 use Rattle.text.specs.Text.{spaceText, endText, octal, filled}
 use Rattle.mnemonics.specs.Layout.{mnemonicOf, layoutOf, operandsText, layoutWidth, Shown}
-use Rattle.listing.specs.Listing.{pageLine, lineLength, pageOf}
+use Rattle.columns.specs.Line.{pageLine, lineLength}
+use Rattle.listing.specs.Listing.{pageOf}
 
 -- columns first to last of a line, counted from 1
 abbrev pub columns : ℕ → ℕ → List ℕ → List ℕ

@@ -6,24 +6,10 @@ use lib.ListN.{length}
 use Rattle.choice.specs.Choice.{pick, Question, ask, asked}
 use Rattle.machine.specs.Step.{wordCount, wordAt}
 use Rattle.emulator.specs.Run.{imageFits}
-use Rattle.text.specs.Text.{spaceText, endText, doorLine, octal, filled, joined}
-use Rattle.mnemonics.specs.Layout.{mnemonicOf, layoutOf, operandsText}
+use Rattle.text.specs.Text.{endText, doorLine}
+use Rattle.columns.specs.Line.{pageLine, lineLength}
 use Rattle.listing.specs.declared.ListAnswer.{ListAnswer}
 use Rattle.listing.specs.declared.ListAnswer.the-variants.{Listed, Refused}
-
--- "Columns 1-5 hold the address in octal, 7-12 the word in octal, 14-17 the mnemonic, 19-31 the operands; other columns are
--- spaces and byte 32 is a line feed."
-abbrev pub lineTexts : ℕ → ℕ → List (List ℕ)
-lineTexts address w =
-    octal 5 address ∷ spaceText ∷ octal 6 w ∷ spaceText ∷ filled 4 (mnemonicOf w) ∷ spaceText ∷
-    filled 13 (operandsText (layoutOf w)) ∷ endText ∷ []
-
-unfoldable pub pageLine : ℕ → ℕ → List ℕ
-pageLine address w = joined (lineTexts address w)
-
--- "one line of exactly 32 bytes"
-abbrev pub lineLength : ℕ
-lineLength = 32
 
 -- "Each word gives one line": those of the addresses below n
 unfoldable pub linesBelow : List ℕ → ℕ → List ℕ

@@ -5,7 +5,8 @@ use native.Mathlib.Omega.{arith}
 use borrow.Author.Needs.{needs}
 use lib.ListN.{length, take}
 use Rattle.machine.specs.Step.{wordCount}
-use Rattle.listing.specs.Listing.{lineLength, linesBelow}
+use Rattle.columns.specs.Line.{lineLength}
+use Rattle.listing.specs.Listing.{linesBelow}
 use Rattle.listing.proofs.Laws.{line-more, lines-all}
 use Rattle.listing.proofs.lines.Statement.{statement}
 use Rattle.listing.proofs.lines.Tie as tie

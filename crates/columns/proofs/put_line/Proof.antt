@@ -1,14 +1,14 @@
--- `listing::put_line` meets its contract: the columns stand behind each other. Assumes nothing.
+-- `columns::put_line` meets its contract: the columns stand behind each other. Assumes nothing.
 use mathlib.Core.Path.{_≡_, sym, ap, _∙_}
 use Prim.Native.Nat.{ℕ, _+_, _*_, _<_}
 use native.Mathlib.Omega.{arith}
 use borrow.Author.Needs.{needs}
 use Rattle.word.specs.Word.{isValid}
 use Rattle.text.proofs.Writing.{the-same, length-octal}
-use Rattle.listing.specs.Listing.{pageLine}
-use Rattle.listing.proofs.Laws.{word-long, line-columns}
-use Rattle.listing.proofs.put_line.Statement.{statement}
-use Rattle.listing.proofs.put_line.Tie as tie
+use Rattle.columns.specs.Line.{pageLine}
+use Rattle.columns.proofs.Laws.{word-long, line-columns}
+use Rattle.columns.proofs.put_line.Statement.{statement}
+use Rattle.columns.proofs.put_line.Tie as tie
 
 -- the word of two bytes
 bits : {a b high low : ℕ} → (a ≡ high) × (a < 256) → (b ≡ low) × (b < 256) → a * 256 + b ≡ high * 256 + low

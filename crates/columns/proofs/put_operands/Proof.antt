@@ -1,4 +1,4 @@
--- `listing::put_operands` meets its contract: the operands there are the first ones of the layout. Assumes nothing.
+-- `columns::put_operands` meets its contract: the operands there are the first ones of the layout. Assumes nothing.
 use mathlib.Core.Path.{subst}
 use Prim.Native.Nat.{ℕ, _-_, _≤_}
 use native.Mathlib.Omega.{arith}
@@ -6,10 +6,10 @@ use borrow.Author.Needs.{needs}
 use Rattle.text.specs.Parts.{Written}
 use Rattle.text.proofs.Writing.{behind, the-same, nothing-written}
 use Rattle.mnemonics.specs.Parts.{operandsBelow}
-use Rattle.listing.specs.Parts.{spacedText}
-use Rattle.listing.proofs.Laws.{operand-more, next-fits}
-use Rattle.listing.proofs.put_operands.Statement.{statement}
-use Rattle.listing.proofs.put_operands.Tie as tie
+use Rattle.columns.specs.Parts.{spacedText}
+use Rattle.columns.proofs.Laws.{operand-more, next-fits}
+use Rattle.columns.proofs.put_operands.Statement.{statement}
+use Rattle.columns.proofs.put_operands.Tie as tie
 
 abbrev Inv-loop : tie.InvT-loop
 Inv-loop out₀ at layout b₀ k₀ out b k = Written out₀ at (spacedText (operandsBelow layout k)) out b × (k ≤ layout .count)

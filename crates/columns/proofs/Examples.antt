@@ -5,7 +5,7 @@ use mathlib.Core.List.{[], _∷_}
 use Rattle.word.specs.Word.{isValid}
 use Rattle.text.specs.Text.{octal}
 use Rattle.mnemonics.specs.Layout.{mnemonicOf, layoutOf, operandsText}
-use Rattle.listing.specs.Listing.{pageLine}
+use Rattle.columns.specs.Line.{pageLine}
 
 -- `00000 000500 MOVE 01 2 00`
 pub move-line : pageLine 0 0x0140 ≡ 48 ∷ 48 ∷ 48 ∷ 48 ∷ 48 ∷ 32 ∷ 48 ∷ 48 ∷ 48 ∷ 53 ∷ 48 ∷ 48 ∷ 32 ∷ 77 ∷ 79 ∷ 86 ∷ 69 ∷ 32 ∷ 48 ∷ 49 ∷ 32 ∷ 50 ∷ 32 ∷ 48 ∷ 48 ∷ 32 ∷ 32 ∷ 32 ∷ 32 ∷ 32 ∷ 32 ∷ 10 ∷ []

@@ -1,8 +1,8 @@
--- `listing::put_number` meets its contract. Assumes nothing.
+-- `columns::put_number` meets its contract. Assumes nothing.
 use borrow.Author.Needs.{needs}
 use Rattle.text.proofs.Writing.{behind}
-use Rattle.listing.proofs.put_number.Statement.{statement}
-use Rattle.listing.proofs.put_number.Tie as tie
+use Rattle.columns.proofs.put_number.Statement.{statement}
+use Rattle.columns.proofs.put_number.Tie as tie
 
 returns : tie.Need-returns
 returns c = behind (c .before .before .before .before .before .before .put .ensures) (c .before .before .put-octal .ensures)

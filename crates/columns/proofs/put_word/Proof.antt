@@ -1,14 +1,14 @@
--- `listing::put_word` meets its contract: every layout fits. Assumes nothing.
+-- `columns::put_word` meets its contract: every layout fits. Assumes nothing.
 use mathlib.Core.Path.{ap}
 use native.Mathlib.Omega.{arith}
 use borrow.Author.Needs.{needs}
 use lib.ListN.{length}
 use Rattle.text.proofs.Writing.{the-same}
-use Rattle.listing.specs.Parts.{spacedText}
+use Rattle.columns.specs.Parts.{spacedText}
 use Rattle.mnemonics.proofs.Laws.{mnemonic-long}
-use Rattle.listing.proofs.Laws.{layout-room, word-columns}
-use Rattle.listing.proofs.put_word.Statement.{statement}
-use Rattle.listing.proofs.put_word.Tie as tie
+use Rattle.columns.proofs.Laws.{layout-room, word-columns}
+use Rattle.columns.proofs.put_word.Statement.{statement}
+use Rattle.columns.proofs.put_word.Tie as tie
 
 put-requires : tie.Need-put-requires
 put-requires c κs = omega (arith, ap length (c .before .before .mnemonic .ensures), mnemonic-long (c .before .before .before .before .args .w), c .before .before .before .before .pre .0)
