@@ -24,7 +24,8 @@ use Rattle.transfer.proofs.TableLaws.{table-laws, start-begins}
 use Rattle.admission.specs.Admission.{filledTable, verdictOf}
 use Rattle.admission.specs.Lowest.{findingIn, Lowest}
 use Rattle.text.specs.Text.{decimal, endText}
-use Rattle.line.specs.Line.{answerLine, lineOf}
+use Rattle.report.specs.Report.{answerLine}
+use Rattle.line.specs.Line.{lineOf}
 use Rattle.line.proofs.Lowest.{line-names}
 
 -- "The image 0xC705 0xB723 0xE001 0xD721 0xE001"

@@ -13,7 +13,8 @@ use Rattle.emulator.specs.Run.{imageFits}
 use Rattle.text.specs.Parts.{Written}
 use Rattle.text.proofs.Writing.{behind}
 use Rattle.text.specs.Text.{doorLine, endText}
-use Rattle.line.specs.Line.{inputQuestions, wordsLine, lineOf}
+use Rattle.report.specs.Report.{wordsLine}
+use Rattle.line.specs.Line.{inputQuestions, lineOf}
 
 -- the line without its end
 abbrev without-end : List ℕ → List ℕ

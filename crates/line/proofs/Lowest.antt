@@ -22,9 +22,10 @@ use Rattle.admission.specs.Admission.{filledTable, verdictOf}
 use Rattle.admission.specs.Lowest.{findingIn, Lowest}
 use Rattle.admission.proofs.OneAnswer.{lowest-verdict, verdict-lowest}
 use Rattle.text.specs.Text.{decimal, refusedText, endText, doorLine}
-use Rattle.line.specs.Line.{depthText, addressText, admittedLine, foundLine, answerLine, wordsLine, lineOf}
+use Rattle.report.specs.Report.{depthText, addressText, admittedLine, foundLine, answerLine, wordsLine}
+use Rattle.report.proofs.Answers.{never-refused}
+use Rattle.line.specs.Line.{lineOf}
 use Rattle.line.specs.Lowest.{LineNames}
-use Rattle.line.proofs.Answers.{never-refused}
 
 -- ---- a number read back
 

@@ -4,61 +4,15 @@ use Prim.Native.Nat.{ℕ}
 use lib.Dec.{leb}
 use lib.ListN.{length, take, drop}
 use Rattle.choice.specs.Choice.{Question, ask, asked}
-use Rattle.map.specs.Map.{mapLength, countOf}
-use Rattle.machine.specs.Step.{wordCount}
+use Rattle.map.specs.Map.{mapLength}
 use Rattle.emulator.specs.Run.{imageFits}
-use Rattle.transfer.specs.Passes.{leastTable}
-use Rattle.admission.specs.declared.AdmitAnswer.{AdmitAnswer}
-use Rattle.admission.specs.declared.AdmitAnswer.the-variants.{Refused, Admitted, Found}
-use Rattle.admission.specs.Admission.{verdictOf}
-use Rattle.text.specs.Text.{spaceText, endText, refusedText, decimal, doorLine}
-
--- "admitted words "
-abbrev pub admittedText : List ℕ
-admittedText = 97 ∷ 100 ∷ 109 ∷ 105 ∷ 116 ∷ 116 ∷ 101 ∷ 100 ∷ 32 ∷ 119 ∷ 111 ∷ 114 ∷ 100 ∷ 115 ∷ 32 ∷ []
-
--- " left "
-abbrev pub leftText : List ℕ
-leftText = 32 ∷ 108 ∷ 101 ∷ 102 ∷ 116 ∷ 32 ∷ []
-
--- " right "
-abbrev pub rightText : List ℕ
-rightText = 32 ∷ 114 ∷ 105 ∷ 103 ∷ 104 ∷ 116 ∷ 32 ∷ []
-
--- " depth "
-abbrev pub depthText : List ℕ
-depthText = 32 ∷ 100 ∷ 101 ∷ 112 ∷ 116 ∷ 104 ∷ 32 ∷ []
-
--- " address "
-abbrev pub addressText : List ℕ
-addressText = 32 ∷ 97 ∷ 100 ∷ 100 ∷ 114 ∷ 101 ∷ 115 ∷ 115 ∷ 32 ∷ []
-
--- "how many addresses each of the four sets has"
-abbrev pub setsText : ℕ → ℕ → ℕ → ℕ → List ℕ
-setsText a b c d =
-    leftText ++ (decimal a ++ (spaceText ++ (decimal b ++ (rightText ++ (decimal c ++ (spaceText ++ decimal d))))))
-
--- "words, and how many addresses each of the four sets has"
-abbrev pub admittedLine : List ℕ → List ℕ → List ℕ
-admittedLine image map =
-    admittedText ++ (decimal (wordCount image) ++ setsText (countOf map 0) (countOf map 1) (countOf map 2) (countOf map 3))
-
--- "or the finding"
-abbrev pub foundLine : ℕ → ℕ → ℕ → List ℕ
-foundLine number depth address = refusedText ++ (decimal number ++ (depthText ++ (decimal depth ++ (addressText ++ decimal address))))
-
-abbrev pub answerLine : List ℕ → List ℕ → AdmitAnswer → List ℕ
-answerLine image map (Refused number) = doorLine number
-answerLine image map Admitted = admittedLine image map
-answerLine image map (Found number depth address) = foundLine number depth address
+use Rattle.text.specs.Text.{endText, doorLine}
+use Rattle.report.specs.Report.{wordsLine}
 
 -- "Reads standard input: the map, then the image. Its own order: 128 bytes or more? 12. At most 928? 18. Then 11."
 abbrev pub inputQuestions : List ℕ → List Question
 inputQuestions input =
     ask 12 (leb mapLength (length input)) ∷ ask 18 (leb (length input) 928) ∷ ask 11 (imageFits (drop mapLength input)) ∷ []
-
-abbrev pub wordsLine : List ℕ → List ℕ → List ℕ
-wordsLine map image = answerLine image map (verdictOf image map (leastTable image))
 
 -- "It prints one line, ended by a line feed"
 unfoldable pub lineOf : List ℕ → List ℕ

@@ -11,7 +11,8 @@ use Rattle.machine.specs.Step.{wordCount}
 use Rattle.admission.specs.Admission.{filledTable}
 use Rattle.admission.specs.Lowest.{findingIn, Lowest}
 use Rattle.text.specs.Text.{endText}
-use Rattle.line.specs.Line.{foundLine, inputQuestions, lineOf}
+use Rattle.report.specs.Report.{foundLine}
+use Rattle.line.specs.Line.{inputQuestions, lineOf}
 
 -- The line that an input gets is `refused NUMBER depth DEPTH address ADDRESS` exactly where no question of the input gets a
 -- no and this is the lowest finding in the table that `admit` fills for its image under its map.

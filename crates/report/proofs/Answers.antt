@@ -16,7 +16,7 @@ use Rattle.admission.specs.declared.AdmitAnswer.{AdmitAnswer}
 use Rattle.admission.specs.declared.AdmitAnswer.the-variants.{Refused, Found}
 use Rattle.admission.specs.Admission.{AdmitResult, verdictOf, resulting, admitResult}
 use Rattle.admission.proofs.Range.{Told, verdict-told}
-use Rattle.line.specs.Line.{answerLine, wordsLine}
+use Rattle.report.specs.Report.{answerLine, wordsLine}
 
 -- the part of the buffer that is lent has the table's length
 pub part-long : (buffer : List ℕ) (n : ℕ) → n ≤ length buffer → n ≡ length (take n buffer)

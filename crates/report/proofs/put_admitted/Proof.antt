@@ -1,10 +1,10 @@
--- `line::put_admitted` meets its contract: a map of its length is not refused, and its counts are small. Assumes nothing.
+-- `report::put_admitted` meets its contract: a map of its length is not refused, and its counts are small. Assumes nothing.
 use borrow.Author.Needs.{needs}
 use denote.Ref.{now}
 use native.Mathlib.Omega.{arith}
-use Rattle.line.proofs.Writing.{none-refused, sets, small-counts, admitted-line}
-use Rattle.line.proofs.put_admitted.Statement.{statement}
-use Rattle.line.proofs.put_admitted.Tie as tie
+use Rattle.report.proofs.Writing.{none-refused, sets, small-counts, admitted-line}
+use Rattle.report.proofs.put_admitted.Statement.{statement}
+use Rattle.report.proofs.put_admitted.Tie as tie
 
 returns : tie.Need-returns
 returns c =

@@ -1,9 +1,9 @@
--- `line::put_sets` meets its contract. Assumes nothing.
+-- `report::put_sets` meets its contract. Assumes nothing.
 use borrow.Author.Needs.{needs}
 use native.Mathlib.Omega.{arith}
-use Rattle.line.proofs.Writing.{sets-text}
-use Rattle.line.proofs.put_sets.Statement.{statement}
-use Rattle.line.proofs.put_sets.Tie as tie
+use Rattle.report.proofs.Writing.{sets-text}
+use Rattle.report.proofs.put_sets.Statement.{statement}
+use Rattle.report.proofs.put_sets.Tie as tie
 
 returns : tie.Need-returns
 returns c =

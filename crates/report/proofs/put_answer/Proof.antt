@@ -1,12 +1,12 @@
--- `line::put_answer` meets its contract: the door refuses nothing, and what is found is small. Assumes nothing.
+-- `report::put_answer` meets its contract: the door refuses nothing, and what is found is small. Assumes nothing.
 use borrow.Author.Needs.{needs}
 use mathlib.Core.Path.{refl}
 use denote.Ref.{now}
 use native.Mathlib.Omega.{arith}
 use Rattle.text.proofs.Writing.{the-same}
-use Rattle.line.proofs.Answers.{part-long, verdict, the-line, never-refused, small-found}
-use Rattle.line.proofs.put_answer.Statement.{statement}
-use Rattle.line.proofs.put_answer.Tie as tie
+use Rattle.report.proofs.Answers.{part-long, verdict, the-line, never-refused, small-found}
+use Rattle.report.proofs.put_answer.Statement.{statement}
+use Rattle.report.proofs.put_answer.Tie as tie
 
 slice-aggregate-admit : tie.Need-slice-aggregate-admit
 slice-aggregate-admit c =

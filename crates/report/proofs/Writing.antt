@@ -13,7 +13,7 @@ use Rattle.machine.specs.Step.{wordCount}
 use Rattle.text.specs.Text.{decimal, spaceText, refusedText}
 use Rattle.text.specs.Parts.{Written}
 use Rattle.text.proofs.Writing.{behind, the-same}
-use Rattle.line.specs.Line.{admittedText, leftText, rightText, depthText, addressText, setsText, foundLine, admittedLine}
+use Rattle.report.specs.Report.{admittedText, leftText, rightText, depthText, addressText, setsText, foundLine, admittedLine}
 
 -- ---- the lines of several parts
 

@@ -1,9 +1,9 @@
--- `line::put_found` meets its contract. Assumes nothing.
+-- `report::put_found` meets its contract. Assumes nothing.
 use borrow.Author.Needs.{needs}
 use native.Mathlib.Omega.{arith}
-use Rattle.line.proofs.Writing.{found-line}
-use Rattle.line.proofs.put_found.Statement.{statement}
-use Rattle.line.proofs.put_found.Tie as tie
+use Rattle.report.proofs.Writing.{found-line}
+use Rattle.report.proofs.put_found.Statement.{statement}
+use Rattle.report.proofs.put_found.Tie as tie
 
 returns : tie.Need-returns
 returns c =
