@@ -82,7 +82,7 @@ lent = replicate 432 0
 copier-admitted : admitResult image map lent .answer ≡ Admitted
 unfolding lent
 copier-admitted =
-    computed-admitted image map table 1 (all-bytes image image-bytes) image-fits refl (omega arith) settled swept (all-clean image map table none-found) lent refl
+    computed-admitted image table 1 (all-bytes image image-bytes) image-fits (omega arith) settled swept map refl (all-clean image map table none-found) lent refl
 
 -- two pairs, of which the right byte of the first is taken, and the left byte of the second
 abbrev recorded : ℕ → ℕ → List ℕ

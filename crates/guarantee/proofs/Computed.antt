@@ -51,15 +51,16 @@ pub all-clean : (image map table : List ℕ) → every (depths * wordCount image
 all-clean image map table h =
     record { none = λ i l. eqb-true (findingAt image map table i) 0 (every-at (depths * wordCount image) _ h i (ltb-true i _ l)) }
 
-pub computed-admitted : (image map table : List ℕ) (n : ℕ) → EachBelow 256 image → imageFits image ≡ true → length map ≡ mapLength
-    → n ≤ sweepBound image → sweepChanges (tableSpace image) (sweeps (tableSpace image) n (startTable image)) ≡ false
-    → sweeps (tableSpace image) n (startTable image) ≡ table → NoFinding image map table
-    → (lent : List ℕ) → length lent ≡ tableLength image → admitResult image map lent .answer ≡ Admitted
-unfolding leastTable
-computed-admitted image map table n bytes fits long few settled swept clean lent room =
-    admitted-when image map lent (record { fits = fits; long = long; room = room; clear = subst⁻¹ (NoFinding image map) least clean })
-  where
-    least : leastTable image ≡ table
-    least =
-        sweeps-rest (table-laws image bytes) (startTable image) n (sweepBound image) (start-begins image bytes (image-some image fits) .good) settled few
-        ∙ swept
+module _ (image table : List ℕ) (n : ℕ) (bytes : EachBelow 256 image) (fits : imageFits image ≡ true) (few : n ≤ sweepBound image)
+    (settled : sweepChanges (tableSpace image) (sweeps (tableSpace image) n (startTable image)) ≡ false)
+    (swept : sweeps (tableSpace image) n (startTable image) ≡ table) where
+  pub computed-least : leastTable image ≡ table
+  unfolding leastTable
+  computed-least =
+      sweeps-rest (table-laws image bytes) (startTable image) n (sweepBound image) (start-begins image bytes (image-some image fits) .good) settled few
+      ∙ swept
+
+  pub computed-admitted : (map : List ℕ) → length map ≡ mapLength → NoFinding image map table
+      → (lent : List ℕ) → length lent ≡ tableLength image → admitResult image map lent .answer ≡ Admitted
+  computed-admitted map long clean lent room =
+      admitted-when image map lent (record { fits = fits; long = long; room = room; clear = subst⁻¹ (NoFinding image map) computed-least clean })

@@ -13,3 +13,5 @@ pub mod Computed
 pub mod Witness
 pub mod Unseen
 pub mod Banks
+pub mod Accepted
+pub mod Wider

@@ -18,13 +18,13 @@ use Rattle.flow.specs.Flow.{joinAll, changesAll, sweepFrom, sweepChangesFrom, s
 use Rattle.facts.specs.declared.Cell.{Cell}
 use Rattle.facts.specs.Facts.{unknown, resetFacts, allKnowNoMore, joinFacts, resultFact, withCarryFact}
 use Rattle.facts.specs.Record.{depths, cellOf, resetCell, holdsCell, joinCell, recordOf, maskOf, readCell, cellAt, putRecord, putCell}
-use Rattle.transfer.specs.Passes.{over, overDown, gives, wordsAt, some, wordPasses, allPasses, passesFrom, tableSpace, tableLength, startTable}
+use Rattle.transfer.specs.Passes.{over, overDown, gives, wordsAt, some, wordPasses, allPasses, passesFrom, tableSpace, tableLength, startTable, leastTable}
 use Rattle.transfer.specs.Findings.{allBelow, findingAt, NoFinding}
 use Rattle.admission.specs.declared.AdmitAnswer.the-variants.{Admitted}
 use Rattle.admission.specs.Admission.{admitResult}
 use Rattle.guarantee.specs.Demand.{Job, Flawless}
 use Rattle.guarantee.proofs.Admitted.{admitted-demand}
-use Rattle.guarantee.proofs.Computed.{every, every-at, all-bytes, all-clean, computed-admitted}
+use Rattle.guarantee.proofs.Computed.{every, every-at, all-bytes, all-clean, computed-least, computed-admitted}
 
 -- 0: XMIT 5 to the left address. 1: CALL 3. 2: JMP 1. 3: MOVE the left byte to R1. 4: MOVE R1 to the left byte. 5: XEC R2
 -- with I 6. 6: RET
@@ -36,11 +36,11 @@ abbrev pub map : List ℕ
 map = 32 ∷ replicate 31 0 ++ 32 ∷ replicate 95 0
 
 -- after the first word: left address 5, and R1, which holds data or 0, is not known
-looping : Cell
+unfoldable pub looping : Cell
 looping = cellOf true (set (set resetFacts 1 unknown) 9 5)
 
 -- cells (0, 0) to (0, 2) and (1, 3) to (1, 5) are reached
-pub table : List ℕ
+unfoldable pub table : List ℕ
 table = putCell (putCell (putCell (putCell (putCell (startTable image) 1 looping) 2 looping) 10 looping) 11 looping) 12 looping
 
 all-passed : every (depths * wordCount image) (λ i. allCovered (tableSpace image) table (passesFrom image table i)) ≡ true
@@ -76,12 +76,15 @@ swept : sweeps (tableSpace image) 3 (startTable image) ≡ table
 unfolding table looping joinAll sweepFrom sweeps joinFacts joinCell recordOf maskOf readCell cellAt putRecord over overDown gives wordsAt some wordPasses allPasses decoded shapeOf slotOf rotateRight lowBits resultOf resultFact withCarryFact inSet
 swept = refl
 
-witness-fits : imageFits image ≡ true
+pub witness-fits : imageFits image ≡ true
 unfolding imageFits
 witness-fits = refl
 
+pub witness-least : leastTable image ≡ table
+witness-least = computed-least image table 3 witness-bytes witness-fits (omega arith) settled swept
+
 pub witness-admitted : (lent : List ℕ) → length lent ≡ tableLength image → admitResult image map lent .answer ≡ Admitted
-witness-admitted = computed-admitted image map table 3 witness-bytes witness-fits refl (omega arith) settled swept witness-clean
+witness-admitted = computed-admitted image table 3 witness-bytes witness-fits (omega arith) settled swept map refl witness-clean
 
 -- so every list of its runs from reset is flawless
 pub witness-runs : (lent : List ℕ) → length lent ≡ tableLength image → (jobs : List Job) → Flawless image map (admitResult image map lent .table) resetBytes jobs

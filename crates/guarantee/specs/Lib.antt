@@ -1,3 +1,4 @@
 pub mod Safe
 pub mod Demand
 pub mod Unseen
+pub mod Accepted
