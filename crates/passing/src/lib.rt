@@ -34,7 +34,14 @@ fn hand_on(asked: &[u8], table: &mut [u8], i: usize, d: Cell) -> bool
 
 // Passes facts on to an address at a depth; an address at or above N gets nothing. Says whether the cell did not hold them,
 // as all that follow do.
-fn pass(image: &[u8], asked: &[u8], table: &mut [u8], depth: usize, a: usize, facts: [u16; 11]) -> bool
+fn pass(
+    image: &[u8],
+    asked: &[u8],
+    table: &mut [u8],
+    depth: usize,
+    a: usize,
+    facts: [u16; 11],
+) -> bool
     requires { ⌜ Laid (now image) (seen (now asked) (now table)) × (depth < 9) × Bounded facts ⌝ }
     ensures { λ r. ⌜ Passed (now (image .entry)) (now (asked .entry)) depth (now (table .entry)) (toward (wordCount (now (image .entry))) depth a facts) (now (table .exit)) r ⌝ }
 {

@@ -61,9 +61,12 @@ load-requires c κs =
 pass-cell-requires : tie.Need-pass-cell-requires
 pass-cell-requires c κs =
     let start = c .before .before .before .before .before .before .before .before .before .before in
-    let a = start .args in
-    (subst⁻¹ (Laid (now (a .image))) (sees-asked (now (a .table)) [] (some-records (now (a .image)) (now (a .table)) (a .pc) (start .pre .0) (start .pre .3 .inside))) (start .pre .0), start .pre .2, start .pre .3,
-    site-bounded (now (a .image)) (now (a .table)) (a .depth) (a .pc) (held (now (a .image)) (now (a .table)) (start .pre .0 .words) (start .pre .0 .layout)) (start .pre .2) (start .pre .3 .inside) (c .before .before .load .ensures))
+    let a = start .args in (
+      subst⁻¹ (Laid (now (a .image))) (sees-asked (now (a .table)) [] (some-records (now (a .image)) (now (a .table)) (a .pc) (start .pre .0) (start .pre .3 .inside))) (start .pre .0),
+      start .pre .2,
+      start .pre .3,
+      site-bounded (now (a .image)) (now (a .table)) (a .depth) (a .pc) (held (now (a .image)) (now (a .table)) (start .pre .0 .words) (start .pre .0 .layout)) (start .pre .2) (start .pre .3 .inside) (c .before .before .load .ensures),
+    )
 
 returns-3 : tie.Need-returns-3
 returns-3 c =
