@@ -25,6 +25,10 @@ use Rattle.admission.specs.declared.AdmitAnswer.{AdmitAnswer}
 use Rattle.admission.specs.declared.AdmitAnswer.the-variants.{Refused as NotAdmitted, Admitted, Found}
 use Rattle.admission.specs.Admission.{admitResult}
 use Rattle.admission.proofs.Range.{Ranged, answer-ranged}
+use Rattle.checking.specs.declared.CheckAnswer.{CheckAnswer}
+use Rattle.checking.specs.declared.CheckAnswer.the-variants.{Refused as NotChecked, Accepted, Failed}
+use Rattle.checking.specs.Check.{checkResult}
+use Rattle.checking.proofs.Range.{Ranged as RangedCheck, answer-ranged as check-ranged}
 use Rattle.foretell.specs.declared.ForetellAnswer.{ForetellAnswer}
 use Rattle.foretell.specs.declared.ForetellAnswer.the-variants.{Refused as NotForetold, Foretold}
 use Rattle.foretell.specs.Foretell.{foretold, boundOf}
@@ -32,11 +36,11 @@ use Rattle.columns.specs.Line.{lineLength}
 use Rattle.listing.specs.Listing.{ListResult, pageRefused, wholePage, listResult}
 use Rattle.numbers.specs.Words.{bitsFrom, numberIn}
 use Rattle.numbers.proofs.Words.{part-apart}
-use Rattle.answers.specs.Numbers.{setsNumber, countNumber, verdictNumber, admitNumber, foretellNumber, runNumber}
-use Rattle.answers.specs.Numbers.{isRefusal, countsIn, admitAnswerIn, sweepsIn, foretellAnswerIn, runAnswerIn, listAnswerIn}
-use Rattle.answers.specs.Fits.{CountsFit, VerdictFits, ForetoldFits}
-use Rattle.answers.specs.Calls.{admitGives, foretellGives}
-use Rattle.answers.proofs.Fits.{counts-fit, verdict-fits, foretold-fits, sweeps-fit}
+use Rattle.answers.specs.Numbers.{setsNumber, countNumber, foundNumber, verdictNumber, admitNumber, checkNumber, foretellNumber, runNumber}
+use Rattle.answers.specs.Numbers.{isRefusal, countsIn, answerIn, admitAnswerIn, checkAnswerIn, sweepsIn, foretellAnswerIn, runAnswerIn, listAnswerIn}
+use Rattle.answers.specs.Fits.{CountsFit, CellFits, VerdictFits, ForetoldFits}
+use Rattle.answers.specs.Calls.{admitGives, checkGives, foretellGives}
+use Rattle.answers.proofs.Fits.{counts-fit, ranged-fits, verdict-fits, check-answer-fits, foretold-fits, sweeps-fit}
 
 -- ---- counts
 
@@ -54,7 +58,7 @@ counts-apart map = go (counted map) (counts-fit map)
         rw (eq-eqb (numberIn n) 0 z) (λ k. Sets (p k) (q k) (r k) (t k))
     go NotCounted s = refl
 
--- ---- admission
+-- ---- admission, and what it has in common with a check
 
 refusal : (n : ℕ) → 0 < n → n < 21 → isRefusal n ≡ true
 refusal n some low = and-both (lt-ltb 0 n some) (lt-ltb n 21 low)
@@ -63,28 +67,40 @@ no-refusal : (n : ℕ) → (n ≡ 0) ⊎ (21 ≤ n) → isRefusal n ≡ false
 no-refusal n (inl z) = rw z
 no-refusal n (inr h) = simp (lt-ltb 0 n (omega arith), le-ltb n 21 h)
 
+-- A number that is 0, a refusal, or that of a cell, whatever stands from bit 32 on: what it is taken apart into.
+module _ {A : Type 0} (none : A) (refused : ℕ → A) (names : ℕ → ℕ → ℕ → A) where
+  none-in : (n : ℕ) → numberIn n ≡ 0 → answerIn none refused names n ≡ none
+  none-in n z = rw (eq-eqb (numberIn n) 0 z)
+
+  refusal-in : (number above : ℕ) {n : ℕ} → n ≡ number + above * 4294967296 → 11 ≤ number → number < 14 → answerIn none refused names n ≡ refused number
+  refusal-in number above {n} e some low =
+      let z : numberIn n ≡ number = omega arith in
+      rw (z, ne-eqb number 0 (omega arith), refusal number (omega arith) (omega arith))
+
+  names-in : (n : ℕ) → 21 ≤ numberIn n → answerIn none refused names n ≡ names (numberIn n) (bitsFrom 8 8 n) (bitsFrom 16 16 n)
+  names-in n h = rw (ne-eqb (numberIn n) 0 (λ z. omega arith), no-refusal (numberIn n) (inr h))
+
+  cell-in : (number depth address above : ℕ) {n : ℕ} → n ≡ foundNumber number depth address + above * 4294967296 → 21 ≤ number
+      → CellFits number depth address → answerIn none refused names n ≡ names number depth address
+  cell-in number depth address above {n} e some fits =
+      let z : numberIn n ≡ number = omega (arith, fits .0) in
+      let p : bitsFrom 8 8 n ≡ depth = part-apart 8 8 (address + above * 65536) depth number (omega arith) (fits .1) (fits .0) in
+      let q : bitsFrom 16 16 n ≡ address = part-apart 16 16 above address (number + depth * 256) (omega arith) (fits .2) (omega (arith, fits .0, fits .1)) in
+      names-in n (omega arith) ∙ (λ k. names (z k) (p k) (q k))
+
 answer-apart : (r : AdmitAnswer) (sweeps : ℕ) → Ranged r → admitAnswerIn (admitNumber r sweeps) ≡ r
-answer-apart (NotAdmitted number) sweeps r =
-    let z : numberIn (admitNumber (NotAdmitted number) sweeps) ≡ number = omega (arith, r .1) in
-    rw (z, ne-eqb number 0 (omega (arith, r .0)), refusal number (omega (arith, r .0)) (omega (arith, r .1)))
-answer-apart Admitted sweeps r = let z : numberIn (admitNumber Admitted sweeps) ≡ 0 = omega arith in rw z
+answer-apart (NotAdmitted number) sweeps r = refusal-in Admitted NotAdmitted Found number sweeps refl (r .0) (r .1)
+answer-apart Admitted sweeps r = none-in Admitted NotAdmitted Found (admitNumber Admitted sweeps) (omega arith)
 answer-apart (Found number depth address) sweeps r =
-    let n : ℕ = admitNumber (Found number depth address) sweeps in
-    let z : numberIn n ≡ number = omega (arith, r .1) in
-    let p : bitsFrom 8 8 n ≡ depth = part-apart 8 8 (address + sweeps * 65536) depth number (omega arith) (omega (arith, r .2)) (omega (arith, r .1)) in
-    let q : bitsFrom 16 16 n ≡ address = part-apart 16 16 sweeps address (number + depth * 256) (omega arith) (omega (arith, r .3)) (omega (arith, r .1, r .2)) in
-    rw (z, ne-eqb number 0 (omega (arith, r .0)), no-refusal number (inr (r .0))) (λ k. Found number (p k) (q k))
+    cell-in Admitted NotAdmitted Found number depth address sweeps refl (r .0) (ranged-fits (Found number depth address) r)
 
 verdict-low : (r : AdmitAnswer) → VerdictFits r → verdictNumber r < 4294967296
 verdict-low (NotAdmitted number) f = omega (arith, f)
 verdict-low Admitted f = omega arith
 verdict-low (Found number depth address) f = omega (arith, f .0, f .1, f .2)
 
-admitted-in : (n : ℕ) → numberIn n ≡ 0 → admitAnswerIn n ≡ Admitted
-admitted-in n z = rw (eq-eqb (numberIn n) 0 z)
-
 pub found-in : (n : ℕ) → 21 ≤ numberIn n → admitAnswerIn n ≡ Found (numberIn n) (bitsFrom 8 8 n) (bitsFrom 16 16 n)
-found-in n h = rw (ne-eqb (numberIn n) 0 (λ z. omega arith), no-refusal (numberIn n) (inr h))
+found-in = names-in Admitted NotAdmitted Found
 
 module _ (image map table : List ℕ) where
   pub admit-apart : admitAnswerIn (admitGives image map table) ≡ admitResult image map table .answer
@@ -92,7 +108,7 @@ module _ (image map table : List ℕ) where
 
   -- the low byte is 0 exactly where the answer is admitted
   pub admit-low : (numberIn (admitGives image map table) ≡ 0) ↔ (admitResult image map table .answer ≡ Admitted)
-  admit-low = (λ z. sym admit-apart ∙ admitted-in _ z, λ e. ap (λ (a : AdmitAnswer). numberIn (admitNumber a (admitResult image map table .sweeps))) e ∙ omega arith)
+  admit-low = (λ z. sym admit-apart ∙ none-in Admitted NotAdmitted Found _ z, λ e. ap (λ (a : AdmitAnswer). numberIn (admitNumber a (admitResult image map table .sweeps))) e ∙ omega arith)
 
   verdict-below : verdictNumber (admitResult image map table .answer) < 4294967296
   verdict-below = verdict-low (admitResult image map table .answer) (verdict-fits image map table)
@@ -106,6 +122,23 @@ module _ (image map table : List ℕ) where
   pub sweeps-apart : EachBelow 256 image → sweepsIn (admitGives image map table) ≡ admitResult image map table .sweeps
   sweeps-apart bytes =
       part-apart 32 32 0 (admitResult image map table .sweeps) (verdictNumber (admitResult image map table .answer)) (omega arith) (sweeps-fit image map table bytes) verdict-below
+
+-- ---- a check
+
+-- nothing stands from bit 32 on
+check-answer-apart : (r : CheckAnswer) → RangedCheck r → checkAnswerIn (checkNumber r) ≡ r
+check-answer-apart (NotChecked number) r = refusal-in Accepted NotChecked Failed number 0 {n = number} (omega arith) (r .0) (r .1)
+check-answer-apart Accepted r = refl
+check-answer-apart (Failed number depth address) r =
+    cell-in Accepted NotChecked Failed number depth address 0 {n = foundNumber number depth address} (omega arith) (r .0) (check-answer-fits (Failed number depth address) r)
+
+module _ (image map table : List ℕ) where
+  pub check-apart : checkAnswerIn (checkGives image map table) ≡ checkResult image map table .answer
+  check-apart = check-answer-apart (checkResult image map table .answer) (check-ranged image map table)
+
+  -- the low byte is 0 exactly where the answer is accepted
+  pub check-low : (numberIn (checkGives image map table) ≡ 0) ↔ (checkResult image map table .answer ≡ Accepted)
+  check-low = (λ z. sym check-apart ∙ none-in Accepted NotChecked Failed _ z, λ e. ap (λ (a : CheckAnswer). numberIn (checkNumber a)) e)
 
 -- ---- foretelling
 

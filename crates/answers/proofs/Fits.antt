@@ -14,10 +14,14 @@ use Rattle.admission.specs.declared.AdmitAnswer.{AdmitAnswer}
 use Rattle.admission.specs.declared.AdmitAnswer.the-variants.{Refused, Admitted, Found}
 use Rattle.admission.specs.Admission.{admitResult}
 use Rattle.admission.proofs.Range.{Ranged, answer-ranged}
+use Rattle.checking.specs.declared.CheckAnswer.{CheckAnswer}
+use Rattle.checking.specs.declared.CheckAnswer.the-variants.{Refused as NotChecked, Accepted, Failed}
+use Rattle.checking.specs.Check.{checkResult}
+use Rattle.checking.proofs.Range.{Ranged as RangedCheck, answer-ranged as check-ranged}
 use Rattle.foretell.specs.declared.ForetellAnswer.{ForetellAnswer}
 use Rattle.foretell.specs.Foretell.{foretold, boundOf}
 use Rattle.foretell.proofs.Counting.{counts-foretold}
-use Rattle.answers.specs.Fits.{CountsFit, VerdictFits, ForetoldFits}
+use Rattle.answers.specs.Fits.{CountsFit, VerdictFits, CheckFits, ForetoldFits}
 
 pub counts-fit : (map : List ℕ) → CountsFit (counted map)
 unfolding counted
@@ -31,6 +35,14 @@ ranged-fits (Found number depth address) r = (omega (arith, r .1), omega (arith,
 
 pub verdict-fits : (image map table : List ℕ) → VerdictFits (admitResult image map table .answer)
 verdict-fits image map table = ranged-fits (admitResult image map table .answer) (answer-ranged image map table)
+
+pub check-answer-fits : (answer : CheckAnswer) → RangedCheck answer → CheckFits answer
+check-answer-fits (NotChecked number) r = omega (arith, r .1)
+check-answer-fits Accepted r = tt
+check-answer-fits (Failed number depth address) r = (omega (arith, r .1), omega (arith, r .2), omega (arith, r .3))
+
+pub check-fits : (image map table : List ℕ) → CheckFits (checkResult image map table .answer)
+check-fits image map table = check-answer-fits (checkResult image map table .answer) (check-ranged image map table)
 
 pub foretold-fits : (image : List ℕ) → ForetoldFits (foretold image) × (boundOf (foretold image) < 4294967296)
 unfolding foretold

@@ -9,14 +9,18 @@ use Rattle.machine.specs.Step.{wordCount}
 use Rattle.emulator.specs.Run.{pairCount, runResult}
 use Rattle.admission.specs.Admission.{admitResult}
 use Rattle.admission.specs.Lowest.{findingIn, Lowest}
+use Rattle.checking.specs.Check.{checkResult}
 use Rattle.foretell.specs.Foretell.{foretold}
 use Rattle.guarantee.specs.Demand.{Job, Fault, Flawless}
 use Rattle.numbers.specs.Words.{bitsFrom, numberIn}
-use Rattle.answers.specs.Numbers.{verdictNumber, admitNumber, foretellNumber, runNumber, sweepsIn}
+use Rattle.answers.specs.Numbers.{verdictNumber, admitNumber, checkNumber, foretellNumber, runNumber, sweepsIn}
 
--- What riptide_admit, riptide_foretell and riptide_run give: their contracts equate their results with these.
+-- What riptide_admit, riptide_check, riptide_foretell and riptide_run give: their contracts equate their results with these.
 abbrev pub admitGives : List ℕ → List ℕ → List ℕ → ℕ
 admitGives image map table = admitNumber (admitResult image map table .answer) (admitResult image map table .sweeps)
+
+abbrev pub checkGives : List ℕ → List ℕ → List ℕ → ℕ
+checkGives image map table = checkNumber (checkResult image map table .answer)
 
 abbrev pub foretellGives : List ℕ → ℕ
 foretellGives image = foretellNumber (foretold image)

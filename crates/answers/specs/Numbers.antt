@@ -1,5 +1,5 @@
--- The answers of counting, admission, foretelling, run and listing as one number each, for C and Rust; those of words are in
--- `numbers`.
+-- The answers of counting, admission, checking, foretelling, run and listing as one number each, for C and Rust; those of
+-- words are in `numbers`.
 use mathlib.Core.Bool.{Bool, _&&_}
 use Prim.Native.Nat.{ℕ, _+_, _*_, _%_, _^_}
 use lib.Dec.{ltb, eqb}
@@ -8,6 +8,8 @@ use Rattle.map.specs.declared.Counts.{Counts}
 use Rattle.map.specs.declared.Counts.the-variants.{Sets, Refused as NotCounted}
 use Rattle.admission.specs.declared.AdmitAnswer.{AdmitAnswer}
 use Rattle.admission.specs.declared.AdmitAnswer.the-variants.{Refused as NotAdmitted, Admitted, Found}
+use Rattle.checking.specs.declared.CheckAnswer.{CheckAnswer}
+use Rattle.checking.specs.declared.CheckAnswer.the-variants.{Refused as NotChecked, Accepted, Failed}
 use Rattle.foretell.specs.declared.ForetellAnswer.{ForetellAnswer}
 use Rattle.foretell.specs.declared.ForetellAnswer.the-variants.{Refused as NotForetold, Foretold}
 use Rattle.emulator.specs.declared.RunAnswer.{RunAnswer}
@@ -38,6 +40,13 @@ verdictNumber (Found number depth address) = foundNumber number depth address
 abbrev pub admitNumber : AdmitAnswer → ℕ → ℕ
 admitNumber answer sweeps = verdictNumber answer + sweeps * 4294967296
 
+-- riptide_check: number + depth × 256 + address × 65,536, the number being 0 for accepted, the refusal, or what a cell fails
+-- with
+abbrev pub checkNumber : CheckAnswer → ℕ
+checkNumber (NotChecked number) = number
+checkNumber Accepted = 0
+checkNumber (Failed number depth address) = foundNumber number depth address
+
 -- riptide_foretell: number + length × 256 + bound × 2^32, the number being 0, or 11 alone
 abbrev pub foretellNumber : ForetellAnswer → ℕ
 foretellNumber NotForetold = 11
@@ -49,7 +58,7 @@ abbrev pub runNumber : RunAnswer → ℕ
 runNumber (Refused number) = number
 runNumber (Ended count stop) = count % 2 ^ 56 * 256 + stop % 256
 
--- riptide_is_refusal, of a RIPTIDE_NUMBER that admission or a run gives; 41 is listing's alone
+-- riptide_is_refusal, of a RIPTIDE_NUMBER that admission, a check or a run gives; 41 is listing's alone
 abbrev pub isRefusal : ℕ → Bool
 isRefusal number = ltb 0 number && ltb number 21
 
@@ -59,10 +68,18 @@ abbrev pub countsIn : ℕ → Counts
 countsIn n =
     pick (eqb (numberIn n) 0) (Sets (bitsFrom 8 12 n) (bitsFrom 20 12 n) (bitsFrom 32 12 n) (bitsFrom 44 12 n)) NotCounted
 
+module _ {A : Type 0} where
+  -- 0 is one answer, a refusal has its number, and every other number names a cell
+  abbrev pub answerIn : A → (ℕ → A) → (ℕ → ℕ → ℕ → A) → ℕ → A
+  answerIn none refused names n =
+      pick (eqb (numberIn n) 0) none
+      (pick (isRefusal (numberIn n)) (refused (numberIn n)) (names (numberIn n) (bitsFrom 8 8 n) (bitsFrom 16 16 n)))
+
 abbrev pub admitAnswerIn : ℕ → AdmitAnswer
-admitAnswerIn n =
-    pick (eqb (numberIn n) 0) Admitted
-    (pick (isRefusal (numberIn n)) (NotAdmitted (numberIn n)) (Found (numberIn n) (bitsFrom 8 8 n) (bitsFrom 16 16 n)))
+admitAnswerIn = answerIn Admitted NotAdmitted Found
+
+abbrev pub checkAnswerIn : ℕ → CheckAnswer
+checkAnswerIn = answerIn Accepted NotChecked Failed
 
 abbrev pub sweepsIn : ℕ → ℕ
 sweepsIn n = bitsFrom 32 32 n

@@ -1,10 +1,11 @@
 // Each answer as one number, for C and Rust; those of words are in `numbers`.
 ghost use mathlib.Core.Path.{_≡_};
 ghost use Prim.Native.Nat.{_<_, _≤_};
-ghost use Rattle.answers.specs.Numbers.{setsNumber, countNumber, foundNumber, verdictNumber, admitNumber, foretellNumber, runNumber};
-ghost use Rattle.answers.specs.Fits.{CountsFit, VerdictFits, ForetoldFits};
+ghost use Rattle.answers.specs.Numbers.{setsNumber, countNumber, foundNumber, verdictNumber, admitNumber, checkNumber, foretellNumber, runNumber};
+ghost use Rattle.answers.specs.Fits.{CountsFit, CellFits, VerdictFits, CheckFits, ForetoldFits};
 use admission::AdmitAnswer;
 use admission::Answered;
+use checking::CheckAnswer;
 use emulator::RunAnswer;
 use foretell::ForetellAnswer;
 use map::Counts;
@@ -37,9 +38,9 @@ pub fn count_number(counts: Counts) -> u64
     }
 }
 
-// The finding, its depth and its address, each at its place of a number.
+// A cell's number, its depth and its address, each at its place of a number.
 fn found(number: usize, depth: usize, address: usize) -> u64
-    requires { ⌜ (number < 256) × (depth < 256) × (address < 65536) ⌝ }
+    requires { ⌜ CellFits number depth address ⌝ }
     ensures { λ r. ⌜ r ≡ foundNumber number depth address ⌝ }
 {
     number as u64 + depth as u64 * 256 + address as u64 * 65536
@@ -74,6 +75,22 @@ pub fn admit_number(answered: Answered) -> u64
 {
     let answer = answered.answer;
     verdict_number(answer) + answered.sweeps as u64 * 4294967296
+}
+
+// 0 for accepted, the refusal, or what a cell fails with, its depth at bit 8 and its address at bit 16.
+pub fn check_number(answer: CheckAnswer) -> u64
+    requires { ⌜ CheckFits answer ⌝ }
+    ensures { λ r. ⌜ r ≡ checkNumber answer ⌝ }
+{
+    match answer {
+        CheckAnswer::Refused { number } => return number as u64,
+        CheckAnswer::Accepted => return 0,
+        CheckAnswer::Failed {
+            number,
+            depth,
+            address,
+        } => return found(number, depth, address),
+    }
 }
 
 // The table's length at bit 8 and the bound of the sweeps at bit 32; or 11.

@@ -170,6 +170,30 @@ fn admit(s: &[u8], at: usize)
     );
 }
 
+// The table comes along with the case, and is only read.
+fn hold_over(image: &[u8], map: &[u8], table: &[u8]) {
+    print_number(riptide::riptide_check(image, map, table));
+    print_digest(b" table_digest=", table);
+}
+
+fn hold(s: &[u8], at: usize)
+    requires { ⌜ at ≤ length (now s) ⌝ }
+{
+    let mut image = io::large_buffer();
+    let mut map = io::buffer();
+    let mut table = io::buffer();
+    let image_count = cases::expand(s, at, &mut image);
+    let at2 = cases::after(s, at, b'=');
+    let map_count = cases::expand(s, at2, &mut map);
+    let at3 = cases::after(s, at2, b'=');
+    let table_count = cases::expand(s, at3, &mut table);
+    hold_over(
+        &image[..image_count],
+        &map[..map_count],
+        &table[..table_count],
+    );
+}
+
 fn foretell(s: &[u8], at: usize)
     requires { ⌜ at ≤ length (now s) ⌝ }
 {
@@ -311,6 +335,7 @@ fn call(kind: u8, s: &[u8], at: usize)
         b'c' => count(s, at),
         b's' => state(s, at),
         b'a' => admit(s, at),
+        b'h' => hold(s, at),
         b'f' => foretell(s, at),
         b'l' => list(s, at),
         b'b' => block(s, at),

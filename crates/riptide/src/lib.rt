@@ -8,7 +8,7 @@ ghost use Rattle.admission.specs.Admission.{admitResult};
 ghost use Rattle.listing.specs.Listing.{listResult};
 ghost use Rattle.numbers.specs.Words.{readNumber, wordFrom, writeNumber};
 ghost use Rattle.answers.specs.Numbers.{countNumber, runNumber};
-ghost use Rattle.answers.specs.Calls.{admitGives, foretellGives};
+ghost use Rattle.answers.specs.Calls.{admitGives, checkGives, foretellGives};
 use listing::ListAnswer;
 use state::ResetAnswer;
 use word::Encoding;
@@ -66,6 +66,15 @@ pub extern "C" fn riptide_admit(image: &[u8], map: &[u8], table: &mut [u8]) -> u
     ensures { λ r. ⌜ (r ≡ admitGives (now (image .entry)) (now (map .entry)) (now (table .entry))) × (now (table .exit) ≡ admitResult (now (image .entry)) (now (map .entry)) (now (table .entry)) .table) ⌝ }
 {
     answers::admit_number(admission::admit(image, map, table))
+}
+
+// number + depth × 256 + address × 65,536: 0 for accepted, the refusal 11, 12 or 13, or what the first cell that fails fails
+// with.
+#[no_mangle]
+pub extern "C" fn riptide_check(image: &[u8], map: &[u8], table: &[u8]) -> u64
+    ensures { λ r. ⌜ r ≡ checkGives (now (image .entry)) (now (map .entry)) (now (table .entry)) ⌝ }
+{
+    answers::check_number(checking::check(image, map, table))
 }
 
 // The length of the image's table × 256 and the bound of its sweeps × 2^32; or 11.
