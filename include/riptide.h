@@ -1,5 +1,5 @@
-/* RIPTIDE-II panel programs: reading and writing words, counting a map's sets, foretelling, admission, reset, run and
- * listing.
+/* RIPTIDE-II panel programs: reading and writing words, counting a map's sets, foretelling, admission, checking a table
+ * that came along, reset, run and listing.
  *
  * Link target/staticlib/libriptide.a, which `rt staticlib riptide` writes. Every call takes any bytes of any length,
  * ends, and gives one number. A pointer is followed by the count of bytes behind it; with a count of 0 it must still
@@ -13,7 +13,8 @@
  *
  * Time is bounded by sweeps and not by the clock: in an admission at most 108 sweeps for each word of the image change
  * the table and one more does not, and a sweep goes through 9 cells for each word. riptide_foretell tells the bound
- * beforehand, riptide_admit how many it was. A run takes at most one step for each pair. docs/RATES.md has seconds.
+ * beforehand, riptide_admit how many it was. A check is one pass over the cells, about what one sweep takes. A run takes at
+ * most one step for each pair. docs/RATES.md has seconds.
  */
 #ifndef RIPTIDE_H
 #define RIPTIDE_H
@@ -26,8 +27,8 @@ extern "C" {
 #endif
 
 /* 10,000 times the first part, 100 times the second, and the third. */
-#define RIPTIDE_VERSION 30000
-#define RIPTIDE_VERSION_TEXT "3.0.0"
+#define RIPTIDE_VERSION 30100
+#define RIPTIDE_VERSION_TEXT "3.1.0"
 
 /* Lengths. An image has an even count of bytes, 2 at least. */
 #define RIPTIDE_WORD_BYTES 2
@@ -45,7 +46,7 @@ extern "C" {
 #define RIPTIDE_LINE_BYTES 32 /* a listing page, for each word: its line with the line feed */
 #define RIPTIDE_PAGE_BYTES(image_length) ((size_t)(image_length) / RIPTIDE_WORD_BYTES * RIPTIDE_LINE_BYTES)
 
-/* The number in the low byte of every answer: 0, a refusal, or a stop or finding. */
+/* The number in the low byte of every answer: 0, a refusal, a stop or finding, or what a check says of a table's cell. */
 #define RIPTIDE_NUMBER(n) ((unsigned)((n) & 0xff))
 
 /* Refusals, asked at the door. */
@@ -69,7 +70,11 @@ extern "C" {
 #define RIPTIDE_NOT_KNOWN 28
 #define RIPTIDE_XEC_OF_XEC 29
 
-/* Whether a number is a refusal: then there is no depth, address or count. */
+/* What a check alone says of a cell. */
+#define RIPTIDE_RECORD_LAYOUT 42
+#define RIPTIDE_FACTS_NOT_HELD 43
+
+/* Whether a number is a refusal: then there is no depth, address or count. 42 and 43 are none: they name a cell. */
 static inline int riptide_is_refusal(unsigned number)
 {
     return (number >= RIPTIDE_REFUSED_IMAGE && number <= RIPTIDE_REFUSED_INPUT) || number == RIPTIDE_REFUSED_PAGE;
@@ -97,6 +102,8 @@ static inline const char *riptide_text(unsigned number)
     case RIPTIDE_NOT_KNOWN: return "an address or a CALL's page is not known";
     case RIPTIDE_XEC_OF_XEC: return "an XEC may execute an XEC";
     case RIPTIDE_REFUSED_PAGE: return "the page is not 32 bytes for each word";
+    case RIPTIDE_RECORD_LAYOUT: return "the cell's record in the table has not the layout";
+    case RIPTIDE_FACTS_NOT_HELD: return "the table does not hold what reset or the cell passes on";
     default: return "unknown number";
     }
 }
@@ -148,11 +155,21 @@ uint64_t riptide_admit(const uint8_t *image, size_t image_length, const uint8_t 
 #define RIPTIDE_ADDRESS(n) ((unsigned)((n) >> 16 & 0xffff))
 #define RIPTIDE_SWEEPS(n) ((unsigned)((n) >> 32))
 
+/* Checks a table that came along with an image and a map, whoever made it, and writes nothing: all three may lie in
+ * read-only memory. 0: accepted. RIPTIDE_NUMBER is 11 image, 12 map, 13 table: refused; else the first that fails, at
+ * RIPTIDE_DEPTH and RIPTIDE_ADDRESS: 42 a record has not the layout of docs/FORMATS.md, asked of all records first; 43 cell
+ * (0, 0) is not reached or knows more than reset; then of the reached cells in table order 21-29 a finding, or 43 a next cell
+ * is not reached or knows more than is passed on. The table that riptide_admit filled for an admitted program is accepted,
+ * and one that knows less can be. An accepted program runs as an admitted one does, within the facts of the table that came
+ * along. */
+uint64_t riptide_check(const uint8_t *image, size_t image_length, const uint8_t *map, size_t map_length,
+                       const uint8_t *table, size_t table_length);
+
 /* Runs a program from a state over a recording, one word for each pair, until the machine stops. Writes the state
  * afterwards and a trace record for each step; later trace bytes stay. RIPTIDE_COUNT is the count of records and
  * RIPTIDE_NUMBER the stop number or 0; with count 0 the number can be a refusal: 11 image, 12 map, 14 state, 15 recording,
- * 16 trace, and then nothing changed. An admitted program takes every pair from reset on, and the recording's bytes of a
- * bank in which the map has nothing readable make no difference to it. */
+ * 16 trace, and then nothing changed. A program that is admitted, or accepted by riptide_check, takes every pair from reset
+ * on. To an admitted one the recording's bytes of a bank in which the map has nothing readable make no difference. */
 uint64_t riptide_run(const uint8_t *image, size_t image_length, const uint8_t *map, size_t map_length, uint8_t *state,
                      size_t state_length, const uint8_t *recording, size_t recording_length, uint8_t *trace,
                      size_t trace_length);

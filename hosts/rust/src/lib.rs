@@ -33,7 +33,8 @@ pub fn page_length(image: &[u8]) -> usize {
     image.len() / 2 * LINE_BYTES
 }
 
-/// What a number says, in a few words: a refusal 11 to 18 or 41, or a stop or finding 21 to 29.
+/// What a number says, in a few words: a refusal 11 to 18 or 41, a stop or finding 21 to 29, or what a check says of a cell,
+/// 42 or 43.
 pub fn text(number: u8) -> &'static str {
     match number {
         0 => "no refusal, stop or finding",
@@ -54,6 +55,8 @@ pub fn text(number: u8) -> &'static str {
         28 => "an address or a CALL's page is not known",
         29 => "an XEC may execute an XEC",
         41 => "the page is not 32 bytes for each word",
+        42 => "the cell's record in the table has not the layout",
+        43 => "the table does not hold what reset or the cell passes on",
         _ => "unknown number",
     }
 }
@@ -98,6 +101,14 @@ mod raw {
             map: *const u8,
             map_len: usize,
             table: *mut u8,
+            table_len: usize,
+        ) -> u64;
+        pub fn riptide_check(
+            image: *const u8,
+            image_len: usize,
+            map: *const u8,
+            map_len: usize,
+            table: *const u8,
             table_len: usize,
         ) -> u64;
         pub fn riptide_run(
@@ -187,6 +198,42 @@ pub fn admit(image: &[u8], map: &[u8], table: &mut [u8]) -> Answered {
     Answered { answer, sweeps: (number >> 32) as u32 }
 }
 
+/// What the check of a table answers.
+#[derive(Clone, Copy, Debug, PartialEq, Eq)]
+pub enum CheckAnswer {
+    /// A door question got a no: 11 image, 12 map, 13 table.
+    Refused(Refusal),
+    /// The program may be loaded: it runs within the facts of this table.
+    Accepted,
+    /// The first cell that fails: 42 its record has not the layout; 21 to 29 its finding; 43 it is the first cell and knows
+    /// more than reset, or a next cell does not hold what it passes on.
+    Failed { number: u8, depth: u8, address: u16 },
+}
+
+impl fmt::Display for CheckAnswer {
+    fn fmt(&self, f: &mut fmt::Formatter) -> fmt::Result {
+        match *self {
+            CheckAnswer::Refused(refusal) => refusal.fmt(f),
+            CheckAnswer::Accepted => f.write_str("accepted"),
+            CheckAnswer::Failed { number, depth, address } => {
+                write!(f, "failed {number} depth {depth} address {address}: {}", text(number))
+            }
+        }
+    }
+}
+
+/// Checks a table that came along with an image and a map, whoever made it.
+pub fn check(image: &[u8], map: &[u8], table: &[u8]) -> CheckAnswer {
+    let number = unsafe {
+        raw::riptide_check(image.as_ptr(), image.len(), map.as_ptr(), map.len(), table.as_ptr(), table.len())
+    };
+    match number as u8 {
+        0 => CheckAnswer::Accepted,
+        refused @ 11..=18 => CheckAnswer::Refused(Refusal(refused)),
+        failed => CheckAnswer::Failed { number: failed, depth: (number >> 8) as u8, address: (number >> 16) as u16 },
+    }
+}
+
 /// What an admission takes: the length of the table, and at most so many sweeps that change it.
 #[derive(Clone, Copy, Debug, PartialEq, Eq)]
 pub struct Foretold {
@@ -215,8 +262,9 @@ pub fn reset(state: &mut [u8]) -> Result<(), Refusal> {
     Ok(())
 }
 
-/// Runs an image under a map over the pairs of a recording. An admitted program takes every pair from reset on, and the
-/// recording's bytes of a bank in which the map has nothing readable make no difference to it.
+/// Runs an image under a map over the pairs of a recording. A program that is admitted, or accepted by [`check`], takes every
+/// pair from reset on. To an admitted one the recording's bytes of a bank in which the map has nothing readable make no
+/// difference.
 pub fn run(image: &[u8], map: &[u8], state: &mut [u8], recording: &[u8], trace: &mut [u8]) -> RunAnswer {
     let answer = unsafe {
         raw::riptide_run(

@@ -1,16 +1,19 @@
 //! The library against the independent reference: random images, maps, states, recordings and tables, valid and damaged.
 //! `RIPTIDE_CASES` sets how many cases are run (default 20,000).
 
-use riptide::{admit, count_sets, foretell, list, page_length, read_word, records, reset, run, write_word};
+use riptide::{admit, check, count_sets, foretell, list, page_length, read_word, records, reset, run, write_word};
 use riptide::{table_length, trace_length};
-use riptide::{AdmitAnswer, Answered, Fields, Refusal, RunAnswer, TraceRecord};
+use riptide::{AdmitAnswer, Answered, CheckAnswer, Fields, Refusal, RunAnswer, TraceRecord};
 use riptide_reference::cases::sweeps;
+use riptide_reference::check::{check as reference_check, read_table, Checked};
 use riptide_reference::digest::Random;
 use riptide_reference::listing;
+use riptide_reference::machine::State;
 use riptide_reference::programs::{bytes_of, damage, random_map, random_program, random_state, random_words};
 use riptide_reference::programs::{reading_elsewhere, sum_words, with_return_bytes};
 use riptide_reference::run as reference;
 use riptide_reference::table::{admit as reference_admit, findings, foretell as reference_foretell, Verdict};
+use riptide_reference::table::{swept, within};
 use riptide_reference::word::{decode, encode, is_bank, Word};
 use riptide_reference::{map as reference_map, programs};
 
@@ -185,6 +188,155 @@ fn sweeps_of_long_images() {
             assert!(count <= told.sweep_bound && told.sweep_bound as usize == 108 * words.len());
         }
     }
+}
+
+/// The library's check, held against the reference's. It writes no byte of the table.
+fn compare_checks(image: &[u8], map: &[u8], table: &[u8]) -> CheckAnswer {
+    let lent = table.to_vec();
+    let answer = check(image, map, &lent);
+    let told = match answer {
+        CheckAnswer::Refused(refusal) => Checked::Refused(refusal.number()),
+        CheckAnswer::Accepted => Checked::Accepted,
+        CheckAnswer::Failed { number, depth, address } => {
+            Checked::Failed { number, depth: depth.into(), address: address.into() }
+        }
+    };
+    assert_eq!(told, reference_check(image, map, table), "{image:02x?} {table:02x?}");
+    assert!(std::hint::black_box(lent) == table, "{image:02x?} {table:02x?}");
+    answer
+}
+
+/// The number of a check's answer.
+fn number_of(answer: CheckAnswer) -> usize {
+    match answer {
+        CheckAnswer::Accepted => 0,
+        CheckAnswer::Refused(refusal) => refusal.number().into(),
+        CheckAnswer::Failed { number, .. } => number.into(),
+    }
+}
+
+/// Each byte of the table of an admitted program put to each of its 255 other values: calls and returns, then an XEC.
+#[test]
+fn every_damage_of_a_table() {
+    let map = programs::map_of([&[5], &[], &[], &[9]]);
+    let images = [[0xc705, 0xcf09, 0xa704, 0xe002, 0x173f, 0xaf81], [0xc705, 0xcf09, 0x9724, 0xe002, 0xdf20, 0xdf21]];
+    for words in images {
+        let image = bytes_of(&words);
+        let mut table = vec![0; table_length(&image)];
+        assert_eq!(admit(&image, &map, &mut table).answer, AdmitAnswer::Admitted);
+        assert_eq!(compare_checks(&image, &map, &table), CheckAnswer::Accepted);
+        let mut numbers = [0; 44];
+        for at in 0..table.len() {
+            let was = table[at];
+            for other in (0..=255).filter(|&other| other != was) {
+                table[at] = other;
+                numbers[number_of(compare_checks(&image, &map, &table))] += 1;
+            }
+            table[at] = was;
+        }
+        let [accepted, unlaid, unheld] = [0, 42, 43].map(|number| numbers[number]);
+        let found: usize = numbers[21..30].iter().sum();
+        println!("{words:04x?}: {accepted} accepted, {unlaid} of 42, {unheld} of 43, {found} findings");
+        assert_eq!(accepted + unlaid + unheld + found, 255 * table.len());
+        assert!([accepted, unlaid, unheld, found].iter().all(|&count| count > 0));
+    }
+}
+
+/// A table that knows less or reaches more: facts of some cells are forgotten, seldom the bus addresses, and what is passed
+/// on then is joined in until no sweep changes the table.
+fn widened(random: &mut Random, image: &[u8], map: &[u8], table: &[u8]) -> Vec<u8> {
+    let mut table = read_table(table, image.len() / 2).expect("a table");
+    let mut cells: Vec<usize> = (0..table.cells.len()).collect();
+    if random.chance(80) {
+        cells.retain(|&at| table.cells[at].is_some());
+    }
+    for _ in 0..1 + random.below(3) {
+        let facts = table.cells[random.pick(&cells)].get_or_insert([Some(1); 11]);
+        let (percent, places) = (random.pick(&[10, 50, 100]), random.pick(&[9, 9, 9, 11]));
+        facts[..places].iter_mut().filter(|_| random.chance(percent)).for_each(|fact| *fact = None);
+    }
+    swept(image, map, table).expect("an image and a map").0.bytes()
+}
+
+/// The table with a byte changed, a fact more or less, or a cell that is not reached any more.
+fn harmed(random: &mut Random, table: &[u8]) -> Vec<u8> {
+    let mut table = table.to_vec();
+    let reached: Vec<usize> = (0..table.len()).step_by(16).filter(|&at| table[at] == 1).collect();
+    let (at, k) = (random.pick(&reached), random.below(11));
+    match random.below(4) {
+        0 => table[at..at + 16].fill(0),
+        1 => {
+            let byte = random.below(table.len());
+            table[byte] = random.below(256) as u8;
+        }
+        _ => {
+            table[at + 2 + k / 8] ^= 1 << (k % 8);
+            table[at + 4 + k] = 0;
+        }
+    }
+    table
+}
+
+/// An accepted program takes every pair from reset on, and stays within the facts of the table that came along.
+fn runs_within(random: &mut Random, image: &[u8], map: &[u8], table: &[u8]) {
+    let table = read_table(table, image.len() / 2).expect("a table");
+    let mut state = [0; 36];
+    for _ in 0..20 {
+        let (recording, mut trace) = (random_bytes(random, 2), [0; 8]);
+        assert!(State::from_bytes(&state).is_some_and(|state| within(&table, &state)), "{image:02x?} {state:02x?}");
+        let answer = run(image, map, &mut state, &recording, &mut trace);
+        assert_eq!(answer, RunAnswer::Ended { count: 1, stop: 0 }, "{image:02x?}");
+    }
+}
+
+#[test]
+fn checks_equal_to_the_reference() {
+    let mut random = Random(0x2609);
+    let (mut admitted, mut wider, mut numbers) = (0, 0, [0; 44]);
+    let cases = cases() / 4;
+    for case in 0..cases {
+        let image = if random.chance(50) { image(&mut random) } else { bytes_of(&random_program(&mut random, 2, 8)) };
+        let map = random_map(&mut random);
+        let mut filled = vec![0; table_length(&image)];
+        let answer = admit(&image, &map, &mut filled).answer;
+        let mut least = filled.clone();
+        least.iter_mut().skip(1).step_by(16).for_each(|finding| *finding = 0);
+        let as_filled = compare_checks(&image, &map, &filled);
+        let without = compare_checks(&image, &map, &least);
+        match answer {
+            AdmitAnswer::Refused(refusal) => panic!("case {case}: {refusal}"),
+            AdmitAnswer::Admitted => {
+                admitted += 1;
+                assert_eq!(as_filled, CheckAnswer::Accepted, "case {case}");
+            }
+            AdmitAnswer::Found { number, depth, address } => {
+                assert_eq!(as_filled, CheckAnswer::Failed { number: 42, depth, address }, "case {case}");
+                assert_eq!(without, CheckAnswer::Failed { number, depth, address }, "case {case}");
+            }
+        }
+        let larger = widened(&mut random, &image, &map, &least);
+        let mut tables = vec![harmed(&mut random, &least), harmed(&mut random, &larger), larger];
+        tables.push(random_bytes(&mut random, table_length(&image)));
+        for table in &tables {
+            let answer = compare_checks(&image, &map, table);
+            numbers[number_of(answer)] += 1;
+            if answer == CheckAnswer::Accepted {
+                wider += usize::from(*table != least);
+                runs_within(&mut random, &image, &map, table);
+            }
+        }
+        let (image_count, map_count) = (random.below(image.len() + 2), random.below(130));
+        let (mut image, mut map, mut table) = (image, map.to_vec(), filled);
+        match random.below(3) {
+            0 => image.resize(image_count, 0),
+            1 => map.resize(map_count, 0),
+            _ => table.truncate(random.below(least.len())),
+        }
+        numbers[number_of(compare_checks(&image, &map, &table))] += 1;
+    }
+    println!("{cases} images, {admitted} admitted, {wider} accepted with another table than admission's");
+    println!("11-13: {:?}, 21-29: {:?}, 42 and 43: {:?}", &numbers[11..14], &numbers[21..30], &numbers[42..]);
+    assert!(cases < 1000 || wider > 0 && [11, 12, 13, 42, 43].iter().all(|&number| numbers[number] > 0));
 }
 
 /// A word's case as the library's opcode and fields, or 22.

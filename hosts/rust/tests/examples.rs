@@ -149,7 +149,8 @@ int main(void)
         RIPTIDE_REFUSED_IMAGE, RIPTIDE_REFUSED_MAP, RIPTIDE_REFUSED_TABLE, RIPTIDE_REFUSED_STATE,
         RIPTIDE_REFUSED_RECORDING, RIPTIDE_REFUSED_TRACE, RIPTIDE_REFUSED_INPUT, RIPTIDE_OUTSIDE_CODE,
         RIPTIDE_INVALID_WORD, RIPTIDE_NOT_READABLE, RIPTIDE_NOT_WRITABLE, RIPTIDE_NOT_LISTED, RIPTIDE_STACK_FULL,
-        RIPTIDE_STACK_EMPTY, RIPTIDE_NOT_KNOWN, RIPTIDE_XEC_OF_XEC, RIPTIDE_REFUSED_PAGE};
+        RIPTIDE_STACK_EMPTY, RIPTIDE_NOT_KNOWN, RIPTIDE_XEC_OF_XEC, RIPTIDE_REFUSED_PAGE, RIPTIDE_RECORD_LAYOUT,
+        RIPTIDE_FACTS_NOT_HELD};
     const uint8_t record[RIPTIDE_TRACE_RECORD_BYTES] = {0, 0, 0, 0, 0x34, 0x12, 0xff, 0xfe};
     const uint64_t answer = 0xfedcba98175308ff, told = 0xfedcba9887654300;
     size_t i;
@@ -170,10 +171,10 @@ int main(void)
 
 #[test]
 fn the_header_in_c_and_cpp() {
-    let mut expected = format!("{}\n30000 ", env!("CARGO_PKG_VERSION"));
+    let mut expected = format!("{}\n30100 ", env!("CARGO_PKG_VERSION"));
     expected +=
         &format!("{MAP_BYTES} {MAP_BYTES} {STATE_BYTES} 16384 16384 144 144 108 2 {TRACE_RECORD_BYTES} {LINE_BYTES} ");
-    expected += "11 12 13 14 15 16 18 21 22 23 24 25 26 27 28 29 41 ";
+    expected += "11 12 13 14 15 16 18 21 22 23 24 25 26 27 28 29 41 42 43 ";
     expected += &format!("{} {}\n", table_length(&[0; 7]), page_length(&[0; 7]));
     let record = records(&[0, 0, 0, 0, 0x34, 0x12, 0xff, 0xfe]).next().expect("a record");
     expected += &format!("{} {}\n", record.pc, record.fetch);
@@ -268,7 +269,7 @@ int main(void)
     static uint8_t table[RIPTIDE_TABLE_BYTES(sizeof image)], table2[RIPTIDE_TABLE_BYTES(sizeof image2)];
     uint8_t state[RIPTIDE_STATE_BYTES], trace[sizeof recording / RIPTIDE_PAIR_BYTES * RIPTIDE_TRACE_RECORD_BYTES];
     uint8_t page[RIPTIDE_PAGE_BYTES(sizeof image)];
-    uint64_t numbers[8];
+    uint64_t numbers[10];
     int i;
     riptide_reset(state, sizeof state);
     numbers[0] = riptide_read_word(0x173f);
@@ -280,13 +281,15 @@ int main(void)
     numbers[5] = riptide_admit(image2, sizeof image2, map2, sizeof map2, table2, sizeof table2);
     numbers[6] = riptide_list(image, sizeof image, page, sizeof page - 1);
     numbers[7] = riptide_foretell(image, sizeof image);
+    numbers[8] = riptide_check(image, sizeof image, map, sizeof map, table, sizeof table);
+    numbers[9] = riptide_check(image2, sizeof image2, map2, sizeof map2, table2, sizeof table2);
     riptide_list(image, sizeof image, page, sizeof page);
     fwrite(trace, 1, sizeof trace, stdout);
     fwrite(state, 1, sizeof state, stdout);
     fwrite(table + RIPTIDE_TABLE_RECORD_BYTES * 2, 1, RIPTIDE_TABLE_RECORD_BYTES, stdout);
     fwrite(table2 + RIPTIDE_TABLE_RECORD_BYTES * 3, 1, RIPTIDE_TABLE_RECORD_BYTES, stdout);
     fwrite(page, 1, sizeof page, stdout);
-    for (i = 0; i < 8; i++)
+    for (i = 0; i < 10; i++)
         printf("%016llX\n", (unsigned long long)numbers[i]);
     return 0;
 }

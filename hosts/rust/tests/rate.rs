@@ -1,8 +1,9 @@
 //! Steps per second of the library beside the direct Rust emulator, over the same 32,768 pairs, repeated; seconds of
-//! admission for the images of 8,192 words that `docs/RATES.md` names, where it is said how these are run; maps whose sets are
-//! counted; and words listed.
+//! admission for the images of 8,192 words that `docs/RATES.md` names, where it is said how these are run, and of the check of
+//! their tables; maps whose sets are counted; and words listed.
 
-use riptide::{admit, count_sets, list, page_length, run, table_length, Answered, RunAnswer};
+use riptide::{admit, check, count_sets, list, page_length, run, table_length};
+use riptide::{AdmitAnswer, Answered, CheckAnswer, RunAnswer};
 use riptide::{MAP_BYTES, TRACE_RECORD_BYTES};
 use riptide_reference::digest::{lcg_bytes, Digest};
 use riptide_reference::direct;
@@ -190,6 +191,60 @@ fn dearest_image() {
     let [.., (name, words)] = images();
     let (Answered { answer, sweeps }, _, seconds) = admitted(&bytes_of(&words));
     println!("{name}: {answer}, {sweeps} sweeps, {seconds:.0} s");
+}
+
+/// The fastest seconds of three checks of a table that is accepted; the reference accepts it too.
+fn checked(image: &[u8], table: &[u8]) -> f64 {
+    let mut fastest = f64::INFINITY;
+    for _ in 0..3 {
+        let started = Instant::now();
+        let answer = check(image, &[255; 128], table);
+        fastest = fastest.min(started.elapsed().as_secs_f64());
+        assert_eq!(answer, CheckAnswer::Accepted);
+    }
+    assert_eq!(riptide_reference::check::check(image, &[255; 128], table), riptide_reference::check::Checked::Accepted);
+    fastest
+}
+
+/// The check of each table that admission filled, beside the admission and one of its sweeps.
+#[test]
+#[ignore]
+fn checking_seconds() {
+    for (name, words) in &images()[..7] {
+        let image = bytes_of(words);
+        let (Answered { answer, sweeps }, table, seconds) = admitted(&image);
+        if answer != AdmitAnswer::Admitted {
+            println!("{name}: {answer}; {}", check(&image, &[255; 128], &table));
+            continue;
+        }
+        let (share, milliseconds) = (seconds * 1e3 / f64::from(sweeps + 1), checked(&image, &table) * 1e3);
+        println!("{name}: admitted in {seconds:.3} s, {share:.2} ms a sweep; checked in {milliseconds:.2} ms");
+    }
+}
+
+/// Half of the words are XECs that may execute sixteen RETs each, half are RETs, and the table reaches all of them at every
+/// depth but 0: each RET asks each XEC one level up whether it may execute a CALL.
+fn returns_everywhere(words: usize) -> (Vec<u8>, Vec<u8>) {
+    let mut image: Vec<u16> = (0..words).map(|a| if a % 32 < 16 { 0x9790 } else { RET }).collect();
+    image[0] = JMP;
+    let mut table = vec![0; 144 * words];
+    for (cell, record) in table.chunks_mut(16).enumerate() {
+        if cell == 0 || cell >= words {
+            (record[0], record[3]) = (1, 2); // the left address, 0, is known
+        }
+    }
+    (bytes_of(&image), table)
+}
+
+#[test]
+#[ignore]
+fn dearest_check() {
+    for words in [1_024, 2_048, 4_096, WORDS] {
+        let (image, table) = returns_everywhere(words);
+        let started = Instant::now();
+        let answer = check(&image, &[255; 128], &table);
+        println!("{words} words: {answer} in {:.1} s", started.elapsed().as_secs_f64());
+    }
 }
 
 const MAPS: usize = 100_000;
