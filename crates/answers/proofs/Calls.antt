@@ -1,19 +1,24 @@
--- The finding that riptide_admit's number names, the sweeps that it counts, and demand 3 from the moment when it is 0. Assumes nothing.
+-- The finding that riptide_admit's number names, the sweeps that it counts, and demand 3 from the moment when it or
+-- riptide_check's number is 0. Assumes nothing.
 use mathlib.Core.List.{List}
 use mathlib.Core.Path.{_≡_, sym, ap, _∙_, subst⁻¹}
 use Prim.Native.Nat.{ℕ, _*_, _^_, _<_}
 use native.Mathlib.Nat.{mod-eq-of-lt}
 use native.Mathlib.Omega.{arith}
+use lib.ListN.{length}
+use Rattle.state.specs.State.{stateLength, resetBytes}
 use Rattle.emulator.specs.Run.{pairCount}
 use Rattle.admission.specs.Admission.{admitResult}
 use Rattle.admission.proofs.OneAnswer.{found-lowest}
+use Rattle.checking.specs.declared.CheckAnswer.{CheckAnswer}
 use Rattle.foretell.proofs.Counting.{counts-foretold}
 use Rattle.guarantee.specs.Demand.{Job, Executes, Flawless, finished, executes, turnedAway}
 use Rattle.guarantee.proofs.ResetSafe.{reset-done}
 use Rattle.guarantee.proofs.Admitted.{admitted-demand}
-use Rattle.answers.specs.Numbers.{runNumber}
-use Rattle.answers.specs.Calls.{admitGives, NumberNames, NumberCounts, Countable, noJob, fewPairs, runGives, Calls, noMore, gavePairs, gaveRefusal, AdmittedCalls}
-use Rattle.answers.proofs.Apart.{found-in, admit-apart, admit-low, admit-keeps, sweeps-apart, bound-apart}
+use Rattle.guarantee.proofs.Accepted.{accepted-runs, admitted-accepted}
+use Rattle.answers.specs.Numbers.{checkNumber, runNumber}
+use Rattle.answers.specs.Calls.{admitGives, NumberNames, NumberCounts, Countable, noJob, fewPairs, runGives, Calls, noMore, gavePairs, gaveRefusal, RunsFrom, AdmittedCalls, AcceptedCalls, AdmittedChecks}
+use Rattle.answers.proofs.Apart.{found-in, admit-apart, admit-low, admit-keeps, check-low, sweeps-apart, bound-apart}
 
 pub number-names : (image map table : List ℕ) → NumberNames image map table
 number-names image map table bytes finding =
@@ -40,12 +45,26 @@ module _ {image map table : List ℕ} where
   calls (fewPairs few rest) (turnedAway t more) =
       gaveRefusal (t .fault) (ap runNumber (t .answer)) (t .state) (t .trace) (calls rest more)
 
+-- every list of runs that is flawless from reset, from what riptide_reset leaves
+runs-from : (image map table state : List ℕ) → length state ≡ stateLength → ((jobs : List Job) → Flawless image map table resetBytes jobs)
+    → RunsFrom image map table state
+runs-from image map table state long flawless =
+    let done = reset-done state long in
+    record {
+      reset = done .0;
+      runs = λ jobs few.
+          let all = subst⁻¹ (λ (s : List ℕ). Flawless image map table s jobs) (done .1) (flawless jobs) in
+          (all, calls few all);
+    }
+
 pub admitted-calls : (image map table state : List ℕ) → AdmittedCalls image map table state
 admitted-calls image map table state bytes z long =
-    let done = reset-done state long in (
-      done .0,
-      λ jobs few.
-          let flawless = subst⁻¹ (λ (s : List ℕ). Flawless image map (admitResult image map table .table) s jobs) (done .1)
-          (admitted-demand image map table bytes (admit-low image map table .0 z) jobs) in
-          (flawless, calls few flawless),
-    )
+    runs-from image map (admitResult image map table .table) state long (admitted-demand image map table bytes (admit-low image map table .0 z))
+
+pub accepted-calls : (image map table state : List ℕ) → AcceptedCalls image map table state
+accepted-calls image map table state bytes z long =
+    runs-from image map table state long (accepted-runs image map table bytes (check-low image map table .0 z))
+
+pub admitted-checks : (image map table : List ℕ) → AdmittedChecks image map table
+admitted-checks image map table bytes z =
+    ap (λ (a : CheckAnswer). checkNumber a) (admitted-accepted image map table bytes (admit-low image map table .0 z))

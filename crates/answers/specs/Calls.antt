@@ -1,5 +1,5 @@
 -- What the numbers that C and Rust see say: which finding is named, how many sweeps were made, and demand 3 from the moment
--- when riptide_admit's number is 0.
+-- when the number of riptide_admit or of riptide_check is 0.
 use mathlib.Core.Path.{_≡_}
 use mathlib.Core.List.{List, [], _∷_}
 use Prim.Native.Nat.{ℕ, _*_, _^_, _≤_, _<_}
@@ -64,10 +64,25 @@ pub data Calls (image map : List ℕ) : List ℕ → List Job → Type 0 where
       → runResult image map state (job .recording) (job .trace) .trace ≡ job .trace
       → Calls image map (runResult image map state (job .recording) (job .trace) .state) jobs → Calls image map state (job ∷ jobs)
 
--- After riptide_admit gave the number 0 (RIPTIDE_NUMBER says it): riptide_reset gives 0 for every state of 36 bytes, and from the
--- bytes that it leaves every list of runs is flawless, in the sense of demand 3, and gives those numbers.
+-- What a host has from then on: riptide_reset gives 0 for a state of 36 bytes, and from the bytes that it leaves every list of runs
+-- is flawless, in the sense of demand 3, within the facts of a table, and gives those numbers.
+pub record RunsFrom (image map table state : List ℕ) : Type 0 where
+  pub reset : resetNumberOf state ≡ 0
+  pub runs : (jobs : List Job) → Countable jobs
+      → Flawless image map table (resetState state) jobs × Calls image map (resetState state) jobs
+
+-- After riptide_admit gave the number 0 (RIPTIDE_NUMBER says it), with the table as it leaves it.
 abbrev pub AdmittedCalls : List ℕ → List ℕ → List ℕ → List ℕ → Type 0
 AdmittedCalls image map table state =
     EachBelow 256 image → numberIn (admitGives image map table) ≡ 0 → length state ≡ stateLength
-    → (resetNumberOf state ≡ 0) × ((jobs : List Job) → Countable jobs
-    → Flawless image map (admitResult image map table .table) (resetState state) jobs × Calls image map (resetState state) jobs)
+    → RunsFrom image map (admitResult image map table .table) state
+
+-- After riptide_check gave the number 0, with the table that came along (request 2026-09 of document 02).
+abbrev pub AcceptedCalls : List ℕ → List ℕ → List ℕ → List ℕ → Type 0
+AcceptedCalls image map table state =
+    EachBelow 256 image → numberIn (checkGives image map table) ≡ 0 → length state ≡ stateLength → RunsFrom image map table state
+
+-- And riptide_check gives 0 for the table that riptide_admit filled where its number was 0.
+abbrev pub AdmittedChecks : List ℕ → List ℕ → List ℕ → Type 0
+AdmittedChecks image map table =
+    EachBelow 256 image → numberIn (admitGives image map table) ≡ 0 → checkGives image map (admitResult image map table .table) ≡ 0
