@@ -17,7 +17,7 @@ use Rattle.transfer.specs.Passes.{pointAt, cellPasses, passesFrom, tableSpace}
 use Rattle.transfer.specs.Findings.{cellQuestions, findingAt}
 use Rattle.passing.specs.Passing.{Laid, seen, Passed}
 use Rattle.passing.proofs.Passing.{sees-asked}
-use Rattle.passing.proofs.Cell.{nothing-passed, reached-passes}
+use Rattle.walking.proofs.Cell.{nothing-passed, reached-passes}
 use Rattle.checking.specs.Check.{faultAt}
 
 module _ (image map table : List ℕ) (i : ℕ) where

@@ -1,6 +1,3 @@
 pub mod Passing
 pub mod Lists
 pub mod Going
-pub mod Executing
-pub mod Returning
-pub mod Cell

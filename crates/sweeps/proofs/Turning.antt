@@ -11,7 +11,7 @@ use Rattle.facts.specs.Record.{cellAt}
 use Rattle.transfer.specs.Passes.{pointAt, cellPasses, tableSpace}
 use Rattle.passing.specs.Passing.{Laid, Passed}
 use Rattle.passing.proofs.Passing.{passed-as}
-use Rattle.passing.proofs.Cell.{nothing-passed, reached-passes}
+use Rattle.walking.proofs.Cell.{nothing-passed, reached-passes}
 
 module _ (image t : List ℕ) (depth pc : ℕ) (h : pc < wordCount image) where
   abbrev point : ℕ

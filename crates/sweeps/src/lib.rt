@@ -18,7 +18,7 @@ fn turn(image: &[u8], table: &mut [u8], depth: usize, pc: usize) -> bool
     }
     let c = cells::load(table, i);
     let facts = c.facts;
-    passing::pass_cell(image, &image[..0], table, depth, pc, facts)
+    walking::pass_cell(image, &image[..0], table, depth, pc, facts)
 }
 
 // The turn of every cell, once, in order. Says whether the table changed.

@@ -11,7 +11,7 @@ use Rattle.callers.proofs.Points.{point-small, point-room}
 use Rattle.callers.proofs.Sites.{site-bounded}
 use Rattle.passing.specs.Passing.{Laid}
 use Rattle.passing.proofs.Passing.{sees-asked}
-use Rattle.passing.proofs.Returning.{held}
+use Rattle.walking.proofs.Returning.{held}
 use Rattle.transfer.specs.Passes.{pointAt}
 use Rattle.checking.proofs.Faults.{some-records, fault-found, fault-nowhere, walked}
 use Rattle.checking.proofs.cell_fault.Statement.{statement}

@@ -5,7 +5,7 @@ use Rattle.machine.specs.Step.{wordCount}
 use Rattle.callers.proofs.Points.{point-small, point-room}
 use Rattle.callers.proofs.Sites.{site-bounded}
 use Rattle.passing.proofs.Passing.{small-depth}
-use Rattle.passing.proofs.Returning.{held}
+use Rattle.walking.proofs.Returning.{held}
 use Rattle.sweeps.proofs.Turning.{turn-still, turn-done}
 use borrow.Author.Needs.{needs}
 use Rattle.sweeps.proofs.turn.Statement.{statement}

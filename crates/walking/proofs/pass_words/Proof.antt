@@ -1,4 +1,4 @@
--- `passing::pass_words` meets its contract. Assumes nothing.
+-- `walking::pass_words` meets its contract. Assumes nothing.
 use mathlib.Core.Path.{_∙_, ap, subst}
 use denote.Ref.{now}
 use borrow.Author.Needs.{needs}
@@ -7,10 +7,10 @@ use Rattle.machine.specs.Step.{wordCount}
 use Rattle.forms.specs.Forms.{shapeIs, FormFits}
 use Rattle.transfer.specs.Passes.{wordsAt, allPasses}
 use Rattle.callers.proofs.Words.{itself}
 use Rattle.passing.proofs.Lists.{all-one}
 use Rattle.passing.proofs.Passing.{passed-as}
-use Rattle.passing.proofs.pass_words.Statement.{statement}
-use Rattle.passing.proofs.pass_words.Tie as tie
+use Rattle.walking.proofs.pass_words.Statement.{statement}
+use Rattle.walking.proofs.pass_words.Tie as tie
 
 pass-executed-requires : tie.Need-pass-executed-requires
 pass-executed-requires c κs =

@@ -1,10 +1,10 @@
--- `passing::pass_place` meets its contract. Assumes nothing.
+-- `walking::pass_place` meets its contract. Assumes nothing.
 use denote.Ref.{now}
 use borrow.Author.Needs.{needs}
 use Rattle.callers.specs.Callers.{spanIs}
-use Rattle.passing.proofs.Executing.{not-given, not-inside, executed}
-use Rattle.passing.proofs.pass_place.Statement.{statement}
-use Rattle.passing.proofs.pass_place.Tie as tie
+use Rattle.walking.proofs.Executing.{not-given, not-inside, executed}
+use Rattle.walking.proofs.pass_place.Statement.{statement}
+use Rattle.walking.proofs.pass_place.Tie as tie
 
 returns : tie.Need-returns
 returns c =

@@ -1,11 +1,11 @@
--- `passing::pass_back` meets its contract. The invariant: the call sites from a on are passed on to. Assumes nothing.
+-- `walking::pass_back` meets its contract. The invariant: the call sites from a on are passed on to. Assumes nothing.
 use native.Mathlib.Omega.{arith}
 use denote.Ref.{now}
 use borrow.Author.Needs.{needs}
 use Rattle.passing.proofs.Passing.{passed-size, reached-fine}
-use Rattle.passing.proofs.Returning.{Backing, backing-begins, backing-next, backing-ends}
-use Rattle.passing.proofs.pass_back.Statement.{statement}
-use Rattle.passing.proofs.pass_back.Tie as tie
+use Rattle.walking.proofs.Returning.{Backing, backing-begins, backing-next, backing-ends}
+use Rattle.walking.proofs.pass_back.Statement.{statement}
+use Rattle.walking.proofs.pass_back.Tie as tie
 
 abbrev Inv-loop : tie.InvT-loop
 Inv-loop image asked table₀ depth facts changed₀ a₀ table changed a = Backing image asked table₀ depth facts a table changed

@@ -1,13 +1,13 @@
--- `passing::is_site` meets its contract. Assumes nothing.
+-- `walking::is_site` meets its contract. Assumes nothing.
 use mathlib.Core.List.{List}
 use mathlib.Core.Path.{sym, _∙_, ap}
 use Prim.Native.Nat.{ℕ}
 use denote.Ref.{now}
 use Rattle.transfer.specs.Passes.{isCallSite}
 use Rattle.passing.proofs.Passing.{sees-asked, sees-table}
-use Rattle.passing.proofs.Returning.{held, held-as}
-use Rattle.passing.proofs.is_site.Statement.{statement}
-use Rattle.passing.proofs.is_site.Tie as tie
+use Rattle.walking.proofs.Returning.{held, held-as}
+use Rattle.walking.proofs.is_site.Statement.{statement}
+use Rattle.walking.proofs.is_site.Tie as tie
 
 is-call-site-requires : tie.Need-is-call-site-requires
 is-call-site-requires c κs =

@@ -1,4 +1,4 @@
--- `passing::pass_executed` meets its contract. The invariant: the words at the first k places are passed on. Assumes nothing.
+-- `walking::pass_executed` meets its contract. The invariant: the words at the first k places are passed on. Assumes nothing.
 use Prim.Native.Nat.{_-_, _≤_}
 use native.Mathlib.Omega.{arith}
 use denote.Ref.{now}
@@ -7,11 +7,11 @@ use Rattle.machine.specs.Shape.{sourceOf}
 use Rattle.machine.specs.Step.{wordCount}
 use Rattle.transfer.specs.Passes.{allPasses}
 use Rattle.callers.specs.Callers.{spanIs}
 use Rattle.passing.specs.Passing.{Passed}
 use Rattle.passing.proofs.Passing.{passed-size}
-use Rattle.passing.proofs.Executing.{executedTo, executed-begins, executed-next, executed-all}
-use Rattle.passing.proofs.pass_executed.Statement.{statement}
-use Rattle.passing.proofs.pass_executed.Tie as tie
+use Rattle.walking.proofs.Executing.{executedTo, executed-begins, executed-next, executed-all}
+use Rattle.walking.proofs.pass_executed.Statement.{statement}
+use Rattle.walking.proofs.pass_executed.Tie as tie
 
 abbrev Inv-loop : tie.InvT-loop
 Inv-loop image asked table₀ depth pc facts s l page i v changed₀ k₀ table changed k =

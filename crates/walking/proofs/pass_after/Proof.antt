@@ -1,4 +1,4 @@
--- `passing::pass_after` meets its contract. Assumes nothing.
+-- `walking::pass_after` meets its contract. Assumes nothing.
 use mathlib.Core.Bool.{Bool}
 use mathlib.Core.List.{[]}
 use mathlib.Core.Path.{ap, sym}
@@ -8,9 +8,9 @@ use borrow.Author.Needs.{needs}
 use Rattle.choice.specs.Choice.{pick}
 use Rattle.machine.specs.Step.{wordCount}
 use Rattle.transfer.specs.Passes.{toward}
 use Rattle.passing.proofs.Passing.{passed-as}
-use Rattle.passing.proofs.pass_after.Statement.{statement}
-use Rattle.passing.proofs.pass_after.Tie as tie
+use Rattle.walking.proofs.pass_after.Statement.{statement}
+use Rattle.walking.proofs.pass_after.Tie as tie
 
 returns : tie.Need-returns
 returns c =

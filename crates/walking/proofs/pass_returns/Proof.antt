@@ -1,11 +1,11 @@
--- `passing::pass_returns` meets its contract. Assumes nothing.
+-- `walking::pass_returns` meets its contract. Assumes nothing.
 use denote.Ref.{now}
 use borrow.Author.Needs.{needs}
 use Rattle.forms.specs.Forms.{shapeIs}
 use Rattle.transfer.specs.Passes.{isReturn, some, wordsAt}
-use Rattle.passing.proofs.Returning.{back-at-zero, back-without, back-passed}
-use Rattle.passing.proofs.pass_returns.Statement.{statement}
-use Rattle.passing.proofs.pass_returns.Tie as tie
+use Rattle.walking.proofs.Returning.{back-at-zero, back-without, back-passed}
+use Rattle.walking.proofs.pass_returns.Statement.{statement}
+use Rattle.walking.proofs.pass_returns.Tie as tie
 
 returns : tie.Need-returns
 returns c =

@@ -1,9 +1,9 @@
--- `passing::pass_cell` meets its contract. Assumes nothing.
+-- `walking::pass_cell` meets its contract. Assumes nothing.
 use denote.Ref.{now}
 use borrow.Author.Needs.{needs}
-use Rattle.passing.proofs.Returning.{cell-passed}
-use Rattle.passing.proofs.pass_cell.Statement.{statement}
-use Rattle.passing.proofs.pass_cell.Tie as tie
+use Rattle.walking.proofs.Returning.{cell-passed}
+use Rattle.walking.proofs.pass_cell.Statement.{statement}
+use Rattle.walking.proofs.pass_cell.Tie as tie
 
 returns : tie.Need-returns
 returns c =

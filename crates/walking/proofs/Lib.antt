@@ -1,0 +1,3 @@
+pub mod Executing
+pub mod Returning
+pub mod Cell
