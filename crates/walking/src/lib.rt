@@ -3,13 +3,15 @@
 ghost use mathlib.Core.Path.{_≡_};
 ghost use mathlib.Core.Bool.{_&&_};
 ghost use mathlib.Core.List.{[], _∷_};
-ghost use Prim.Native.Nat.{_+_, _-_, _≤_, _<_};
+ghost use Prim.Native.Nat.{_+_, _-_, _*_, _≤_, _<_};
 ghost use lib.Dec.{ltb};
+ghost use lib.ListN.{length};
 ghost use Rattle.choice.specs.Choice.{pick};
 ghost use Rattle.machine.specs.Shape.{sourceOf, go, defer};
 ghost use Rattle.machine.specs.Step.{wordCount, shapeAt};
 ghost use Rattle.machine.specs.Parts.{IsPage};
 ghost use Rattle.forms.specs.Forms.{shapeIs, FormFits};
+ghost use Rattle.facts.specs.Record.{recordSize, cellAt};
 ghost use Rattle.cells.specs.Cells.{Bounded};
 ghost use Rattle.callers.specs.Callers.{spanIs, InImage};
 ghost use Rattle.transfer.specs.Passes.{toward, gives, isCallSite, pageAddress, canBeExecuted, wordsAt, some, isReturn, allPasses, returnPasses, cellPasses};
@@ -90,6 +92,17 @@ fn pass_words(
     passing::pass_word(image, asked, table, depth, pc, facts, form)
 }
 
+// Is cell i reached?
+fn is_reached(asked: &[u8], table: &[u8], i: usize) -> bool
+    requires { ⌜ recordSize * i + recordSize ≤ length (seen (now asked) (now table)) ⌝ }
+    ensures { λ r. ⌜ r ≡ cellAt (seen (now (asked .entry)) (now (table .entry))) i .reached ⌝ }
+{
+    if 0 < asked.len() {
+        return cells::reached(asked, i);
+    }
+    cells::reached(table, i)
+}
+
 // Is the cell at an address and depth a call site?
 fn is_site(image: &[u8], asked: &[u8], table: &[u8], depth: usize, a: usize) -> bool
     requires { ⌜ Laid (now image) (seen (now asked) (now table)) × (depth < 9) × InImage (now image) a ⌝ }
@@ -101,7 +114,8 @@ fn is_site(image: &[u8], asked: &[u8], table: &[u8], depth: usize, a: usize) -> 
     callers::is_call_site(image, table, depth, a)
 }
 
-// To the address after a, if the cell there is a call site.
+// To the address after a, if the cell there is a call site. A cell that is not reached is told by one byte, before the rest
+// is called.
 fn pass_after(
     image: &[u8],
     asked: &[u8],
@@ -113,6 +127,9 @@ fn pass_after(
     requires { ⌜ Laid (now image) (seen (now asked) (now table)) × (depth < 9) × InImage (now image) a × Bounded facts ⌝ }
     ensures { λ r. ⌜ Passed (now (image .entry)) (now (asked .entry)) depth (now (table .entry)) (pick (isCallSite (now (image .entry)) (seen (now (asked .entry)) (now (table .entry))) depth a) (toward (wordCount (now (image .entry))) depth (a + 1) facts) []) (now (table .exit)) r ⌝ }
 {
+    if !is_reached(asked, table, depth * (image.len() / 2) + a) {
+        return false;
+    }
     let site = is_site(image, asked, table, depth, a);
     passing::pass_if(image, asked, table, depth, a + 1, facts, site)
 }
