@@ -152,17 +152,21 @@ pub fn performs(image: &[u8], pc: usize, facts: [u16; 11], form: Form, returns: 
     is_asked(form, returns)
 }
 
-// Is the cell at an address and depth reached, and may it execute a CALL? One that is not reached is told by one byte, before
-// the rest is loaded.
+// Is the cell at an address and depth reached, and may it execute a CALL? One that is not reached is told by one byte; what is
+// known there is loaded for an XEC alone.
 pub fn is_call_site(image: &[u8], table: &[u8], depth: usize, a: usize) -> bool
     requires { ⌜ Held (now image) (now table) × (depth < 9) × (a < wordCount (now image)) ⌝ }
     ensures { λ r. ⌜ r ≡ isCallSite (now (image .entry)) (now (table .entry)) depth a ⌝ }
 {
-    let i = depth * (image.len() / 2) + a;
-    if !cells::reached(table, i) {
+    let at = depth * (image.len() / 2) + a;
+    if !cells::reached(table, at) {
         return false;
     }
-    let c = cells::load(table, i);
-    let facts = c.facts;
-    performs(image, a, facts, processor::form_at(image, a), false)
+    let form = processor::form_at(image, a);
+    if let Form::Defer { s, l, page, i } = form {
+        let c = cells::load(table, at);
+        let facts = c.facts;
+        return xec_performs(image, a, facts, s, l, page, i, false);
+    }
+    is_call(form)
 }

@@ -1,9 +1,9 @@
 -- Accepted exactly when the definition says: the door questions, the layout of every record, a closed table and no finding.
 -- Assumes nothing.
-use mathlib.Core.Path.{_≡_, refl, sym, _∙_, ap, subst}
+use mathlib.Core.Path.{_≡_, refl, sym, _∙_, ap}
 use mathlib.Core.Bool.{Bool, true, false, false≢true}
 use mathlib.Core.List.{List}
-use Prim.Native.Nat.{ℕ, _*_, _/_, _%_, _<_}
+use Prim.Native.Nat.{ℕ, _*_, _/_, _%_}
 use native.Mathlib.Omega.{arith}
 use lib.Dec.{ltb, eqb}
 use borrow.Author.Tests.{lt-ltb, ltb-true, ltb-false, eqb-true}
@@ -19,7 +19,7 @@ use Rattle.admission.specs.Admission.{admitQuestions}
 use Rattle.admission.proofs.Opening.{Opened, opened}
 use Rattle.checking.specs.declared.CheckAnswer.{CheckAnswer}
 use Rattle.checking.specs.declared.CheckAnswer.the-variants.{Refused, Accepted, Failed}
-use Rattle.checking.specs.Check.{layoutAt, startHeld, faultAt, failsAt, inOrder, judged, CheckResult, answering, checkResult, Acceptable}
+use Rattle.checking.specs.Check.{layoutAt, startHeld, faultAt, inOrder, judged, CheckResult, checkResult, Acceptable}
 use Rattle.checking.proofs.Scanning.{asks-next, fits-of}
 use Rattle.checking.proofs.Faults.{fault-told}
 use Rattle.checking.proofs.Judging.{check-refused, check-judged}

@@ -1,6 +1,5 @@
 -- `checking::starts` meets its contract. Assumes nothing.
 use mathlib.Core.Path.{_∙_, ap}
-use denote.Ref.{now}
 use borrow.Author.Needs.{needs}
 use Rattle.facts.specs.declared.Cell.{Cell}
 use Rattle.facts.specs.Record.{resetCell, holdsCell}

@@ -1,9 +1,6 @@
 -- `passing::hand_on` meets its contract. Assumes nothing.
-use mathlib.Core.Path.{refl, sym, _∙_, ap, subst}
-use native.Mathlib.Omega.{arith}
 use denote.Ref.{now}
 use borrow.Author.Needs.{needs}
-use borrow.Author.Tests.{lt-ltb, le-ltb}
 use Rattle.passing.proofs.Passing.{handed-asked, handed-joined, asked-room, table-cell}
 use Rattle.passing.proofs.hand_on.Statement.{statement}
 use Rattle.passing.proofs.hand_on.Tie as tie

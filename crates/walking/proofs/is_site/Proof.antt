@@ -5,7 +5,7 @@ use Prim.Native.Nat.{ℕ}
 use denote.Ref.{now}
 use Rattle.transfer.specs.Passes.{isCallSite}
 use Rattle.passing.proofs.Passing.{sees-asked, sees-table}
-use Rattle.walking.proofs.Returning.{held, held-as}
+use Rattle.walking.proofs.Returning.{held-as}
 use Rattle.walking.proofs.is_site.Statement.{statement}
 use Rattle.walking.proofs.is_site.Tie as tie
 
