@@ -1,6 +1,6 @@
 -- What passes that are asked of a table, or joined into one, leave: none, some and then others, and one.
 use mathlib.Core.Path.{_≡_, refl, sym, _∙_, ap, ap₂, subst, subst⁻¹}
-use mathlib.Core.Bool.{Bool, true, false, not, _&&_, _||_, false≢true}
+use mathlib.Core.Bool.{Bool, true, false, not, _&&_, _||_}
 use mathlib.Core.List.{List, [], _∷_, _++_}
 use Prim.Native.Nat.{ℕ, _+_, _*_, _≤_, _<_}
 use native.Mathlib.Omega.{arith}
@@ -23,10 +23,6 @@ use Rattle.facts.proofs.Makes.{after-fine}
 use Rattle.cells.specs.Cells.{HasCell, Bounded}
 use Rattle.transfer.specs.Passes.{pointAt, toward, tableSpace}
 use Rattle.passing.specs.Passing.{asks, seen, Passed}
-
--- eleven facts, each a value or unknown, make a cell that is reached
-pub reached-fine : (facts : List ℕ) → length facts ≡ 11 → Bounded facts → FineCell (cellOf true facts)
-reached-fine facts l b = record { facts = l; bounded = b; blank = λ e. absurd (false≢true (sym e)) }
 
 -- facts after an act are again a value or unknown
 pub after-bounded : (facts : List ℕ) (op x : ℕ) (target : Target) → length facts ≡ 11 → Bounded facts → x ≤ unknown

@@ -2,7 +2,8 @@
 use native.Mathlib.Omega.{arith}
 use denote.Ref.{now}
 use borrow.Author.Needs.{needs}
-use Rattle.passing.proofs.Passing.{reached-fine, small-depth, point-inside, passed-toward, passed-nowhere}
+use Rattle.transfer.proofs.TableLaws.{reached-fine}
+use Rattle.passing.proofs.Passing.{small-depth, point-inside, passed-toward, passed-nowhere}
 use Rattle.passing.proofs.pass.Statement.{statement}
 use Rattle.passing.proofs.pass.Tie as tie
 
@@ -20,7 +21,7 @@ hand-on-requires : tie.Need-hand-on-requires
 hand-on-requires c κs =
     let start = c .before .before .before .before .before in
     let known = start .good .0 in
-    let f = reached-fine (start .args .facts) (omega (arith, known)) (start .pre .2) in (
+    let f = reached-fine (start .args .facts) (record { long = omega (arith, known); bounded = start .pre .2 }) in (
       record {
         cells = _;
         layout = start .pre .0 .layout;
@@ -33,7 +34,7 @@ returns : tie.Need-returns
 returns c =
     let start = c .before .before .before .before .before .before .before .before in
     let known = start .good .0 in
-    let f = reached-fine (start .args .facts) (omega (arith, known)) (start .pre .2) in
+    let f = reached-fine (start .args .facts) (record { long = omega (arith, known); bounded = start .pre .2 }) in
     let done = c .before .before .hand-on .ensures in
     passed-toward (now (start .args .image)) (now (start .args .asked)) (now (start .args .table)) (start .args .depth) (start .args .a) (start .args .facts) (start .pre .0 .layout) (start .pre .1) f (c .before .before .before .before .if1 .taken) (done .0) (done .1)
 
@@ -41,7 +42,7 @@ returns-2 : tie.Need-returns-2
 returns-2 c =
     let start = c .before .before .before .before in
     let known = start .good .0 in
-    let f = reached-fine (start .args .facts) (omega (arith, known)) (start .pre .2) in
+    let f = reached-fine (start .args .facts) (record { long = omega (arith, known); bounded = start .pre .2 }) in
     passed-nowhere (now (start .args .image)) (now (start .args .asked)) (now (start .args .table)) (start .args .depth) (start .args .a) (start .args .facts) (start .pre .0 .layout) (start .pre .1) f (c .if1 .left)
 
 pub pass-spec : {M : Type 1} → statement M

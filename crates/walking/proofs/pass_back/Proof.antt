@@ -2,7 +2,8 @@
 use native.Mathlib.Omega.{arith}
 use denote.Ref.{now}
 use borrow.Author.Needs.{needs}
-use Rattle.passing.proofs.Passing.{passed-size, reached-fine}
+use Rattle.transfer.proofs.TableLaws.{reached-fine}
+use Rattle.passing.proofs.Passing.{passed-size}
 use Rattle.walking.proofs.Returning.{Backing, backing-begins, backing-next, backing-ends}
 use Rattle.walking.proofs.pass_back.Statement.{statement}
 use Rattle.walking.proofs.pass_back.Tie as tie
@@ -39,7 +40,7 @@ loop-again c =
     let p = c .before .before .before .before .before .loop in
     let known = start .good .0 in
     backing-next (now (a .image)) (now (a .asked)) (now (a .table)) (a .depth) (a .facts) (p .a) (start .pre .1)
-    (reached-fine (a .facts) (omega (arith, known)) (start .pre .2)) (c .before .before .before .before .loop-test .taken) (p .inv) (c .before .before .pass-after .ensures)
+    (reached-fine (a .facts) (record { long = omega (arith, known); bounded = start .pre .2 })) (c .before .before .before .before .loop-test .taken) (p .inv) (c .before .before .pass-after .ensures)
 
 same-length : tie.Need-same-length Inv-loop μ-loop
 same-length c = passed-size (c .before .before .before .before .before .pre .0 .layout) (c .before .loop .inv .passed)
