@@ -1,9 +1,9 @@
 -- What a cell fails with. Assumes nothing.
-use mathlib.Core.Path.{_≡_, sym, _∙_, ap, subst}
-use mathlib.Core.Bool.{Bool, true, false, not}
+use mathlib.Core.Path.{_≡_, sym, _∙_, ap, subst, subst⁻¹}
+use mathlib.Core.Bool.{Bool, true, false, not, true≢false}
 use mathlib.Core.List.{List}
 use mathlib.Core.Logic.{_≢_}
-use Prim.Native.Nat.{ℕ, _/_, _%_, _<_}
+use Prim.Native.Nat.{ℕ, _*_, _/_, _%_, _<_}
 use native.Mathlib.Omega.{arith}
 use lib.ListN.{length}
 use borrow.Author.Tests.{eq-eqb, ne-eqb, lt-ltb, not-true}
@@ -12,11 +12,11 @@ use Rattle.machine.specs.Step.{wordCount}
 use Rattle.flow.specs.Flow.{changesAll, allCovered}
 use Rattle.flow.proofs.Rest.{allCovered-nil}
 use Rattle.facts.specs.declared.Cell.{Cell}
-use Rattle.facts.specs.Record.{cellAt}
+use Rattle.facts.specs.Record.{depths, cellAt, Layout}
 use Rattle.transfer.specs.Passes.{pointAt, cellPasses, passesFrom, tableSpace}
 use Rattle.transfer.specs.Findings.{cellQuestions, findingAt}
-use Rattle.passing.specs.Passing.{Laid, seen, Passed}
-use Rattle.passing.proofs.Passing.{sees-asked}
+use Rattle.passing.specs.Passing.{Laid, seen, Ready, Passed}
+use Rattle.passing.proofs.Joining.{sees-asked}
 use Rattle.walking.proofs.Cell.{nothing-passed, reached-passes}
 use Rattle.checking.specs.Check.{faultAt}
 
@@ -46,11 +46,20 @@ module _ (image map table : List ℕ) (i : ℕ) where
 pub some-records : (image table : List ℕ) (pc : ℕ) → Laid image table → pc < wordCount image → 0 < length table
 some-records image table pc l h = omega (arith, l .layout .long)
 
+-- it is asked, so nothing need be lent to join into and to mark
+pub asked-ready : (image table none unmarked : List ℕ) → Laid image table → 0 < length table → Ready image table none unmarked
+asked-ready image table none unmarked g some =
+    record {
+      words = g .words;
+      layout = subst⁻¹ (Layout (depths * wordCount image)) (sees-asked table none some) (g .layout);
+      sited = λ out. absurd (true≢false (sym (lt-ltb 0 (length table) some) ∙ out));
+    }
+
 -- the walk over what a reached cell passes on
 pub walked : (image map table : List ℕ) (depth pc : ℕ) → pc < wordCount image → 0 < length table → {b : Bool} {c : Cell}
     → b ≡ cellAt table (pointAt (wordCount image) depth pc) .reached → not b ≡ false → c ≡ cellAt table (pointAt (wordCount image) depth pc)
     → findingAt image map table (pointAt (wordCount image) depth pc) ≡ 0
-    → {d : ℕ} {none after : List ℕ} {r : Bool} → Passed image table d none (cellPasses image (seen table none) depth pc (c .facts)) after r
+    → {d : ℕ} {none m after n : List ℕ} {r : Bool} → Passed image table d none m (cellPasses image (seen table none) depth pc (c .facts)) after n r
     → pick (not r) 0 43 ≡ faultAt image map table (pointAt (wordCount image) depth pc)
 walked image map table depth pc near some {c = c} here n e found {none = none} {r = r} p =
     fault-told image map table (pointAt (wordCount image) depth pc) found

@@ -82,7 +82,8 @@ fn cell_fault(image: &[u8], map: &[u8], table: &[u8], depth: usize, pc: usize) -
     let c = cells::load(table, i);
     let facts = c.facts;
     let mut none = [0; 0];
-    if walking::pass_cell(image, table, &mut none, depth, pc, facts) {
+    let mut unmarked = [0; 0];
+    if walking::pass_cell(image, table, &mut none, &mut unmarked, depth, pc, facts) {
         return 43;
     }
     0

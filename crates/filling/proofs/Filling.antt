@@ -15,13 +15,6 @@ use Rattle.transfer.proofs.TableLaws.{table-laws, start-begins, start-weight}
 use Rattle.transfer.proofs.LeastTable.{count-bound, filled-is-least}
 use Rattle.passing.specs.Passing.{Laid}
 
--- the table before the first sweep: zeros, and the reset cell
-pub started : (image t : List ℕ) {u v : List ℕ} → length t ≡ recordSize * (depths * wordCount image) → u ≡ replicate (length t) 0 → v ≡ putCell u 0 resetCell
-    → v ≡ startTable image
-started image t l e p =
-    let same : length t ≡ tableLength image = omega arith in
-    p ∙ ap (λ (x : List ℕ). putCell x 0 resetCell) (e ∙ ap (λ (n : ℕ). replicate n 0) same)
-
 -- after `count` sweeps, each of which changed the table
 abbrev pub Way : List ℕ → ℕ → List ℕ → Type 0
 Way image = Filling (tableSpace image) (startTable image)
@@ -30,12 +23,8 @@ module _ (image : List ℕ) (bytes : (k : ℕ) → getD image k 0 < 256) (some :
   good : Layout (depths * wordCount image) (startTable image)
   good = start-begins image bytes some .good
 
-  pub reset-fine : FineCell resetCell
-  reset-fine = start-begins image bytes some .fine
-
-  pub way-begins : {t : List ℕ} → wordCount image ≤ 8192 → t ≡ startTable image → Laid image t × Way image 0 t
-  way-begins w e =
-      subst⁻¹ (λ (x : List ℕ). Laid image x × Way image 0 x) e (record { words = w; layout = good }, filling-begins (startTable image))
+  pub way-begins : {t : List ℕ} → t ≡ startTable image → Way image 0 t
+  way-begins e = subst⁻¹ (Way image 0) e (filling-begins (startTable image))
 
   module _ {count : ℕ} {t u : List ℕ} {r : Bool} (way : Way image count t) (e : u ≡ sweep (tableSpace image) t) (c : r ≡ sweepChanges (tableSpace image) t) where
     pub way-next : r ≡ true → Way image (count + 1) u

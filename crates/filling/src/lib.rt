@@ -4,8 +4,9 @@ ghost use Prim.Native.Nat.{_*_, _≤_, _<_};
 ghost use lib.ListN.{length, replicate};
 ghost use Rattle.machine.specs.Step.{wordCount};
 ghost use Rattle.facts.specs.Record.{recordSize, depths};
-ghost use Rattle.transfer.specs.Passes.{sweepBound, leastTable, sweepsOf};
-use facts::Cell;
+ghost use Rattle.transfer.specs.Passes.{startTable, sweepBound, leastTable, sweepsOf};
+ghost use Rattle.marks.specs.Marks.{Agenda};
+ghost use Rattle.passing.specs.Passing.{Laid};
 
 // Makes every byte zero.
 fn clear(table: &mut [u8])
@@ -18,20 +19,26 @@ fn clear(table: &mut [u8])
     }
 }
 
+// Sweeps until one changes nothing. Tells how many changed the table.
+fn sweep_all(image: &[u8], table: &mut [u8], marks: &mut [u64], hubs: &mut [u8]) -> usize
+    requires { ⌜ (0 < wordCount (now image)) × Laid (now image) (now table) × (now table ≡ startTable (now image)) × Agenda (now image) (now table) (now marks) (now hubs) ⌝ }
+    ensures { λ r. ⌜ (now (table .exit) ≡ leastTable (now (image .entry))) × (r ≡ sweepsOf (now (image .entry))) × (r ≤ sweepBound (now (image .entry))) ⌝ }
+{
+    let mut count = 0;
+    while sweeps::sweep(image, table, marks, hubs) {
+        count += 1;
+    }
+    count
+}
+
 // Fills the table, whatever it held: the least table of the image. Tells how many sweeps changed it.
 pub fn fill(image: &[u8], table: &mut [u8]) -> usize
     requires { ⌜ (0 < wordCount (now image)) × (wordCount (now image) ≤ 8192) × (length (now table) ≡ recordSize * (depths * wordCount (now image))) ⌝ }
     ensures { λ r. ⌜ (now (table .exit) ≡ leastTable (now (image .entry))) × (r ≡ sweepsOf (now (image .entry))) × (r ≤ sweepBound (now (image .entry))) ⌝ }
 {
     clear(table);
-    let reset = Cell {
-        reached: true,
-        facts: [0; 11],
-    };
-    cells::store(table, 0, reset, 0);
-    let mut count = 0;
-    while sweeps::sweep(image, table) {
-        count += 1;
-    }
-    count
+    let mut marks = [0u64; marks::WORDS];
+    let mut hubs = [0u8; 144];
+    passing::pass(image, &image[..0], table, &mut marks, 0, 0, [0; 11]);
+    sweep_all(image, table, &mut marks, &mut hubs)
 }

@@ -17,3 +17,11 @@ module _ {A : Type 0} where
   pub each-map : {P Q : A → Type 0} {xs : List A} → ((x : A) → P x → Q x) → Each P xs → Each Q xs
   each-map f none = none
   each-map f (also p d) = also (f _ p) (each-map f d)
+
+  pub each-left : {P : A → Type 0} (xs ys : List A) → Each P (xs ++ ys) → Each P xs
+  each-left [] ys e = none
+  each-left (x ∷ xs) ys (also p e) = also p (each-left xs ys e)
+
+  pub each-right : {P : A → Type 0} (xs ys : List A) → Each P (xs ++ ys) → Each P ys
+  each-right [] ys e = e
+  each-right (x ∷ xs) ys (also p e) = each-right xs ys e

@@ -7,5 +7,6 @@ pub mod Grows
 pub mod Still
 pub mod Weights
 pub mod Filling
+pub mod Due
 pub mod Fixpoint
 pub mod Example

@@ -12,10 +12,10 @@ use Rattle.state.specs.declared.State.{State}
 use Rattle.state.specs.State.{addressSlot}
 use Rattle.machine.specs.Shape.{Source, register, bank, constant, Target, slot, latch, Control, jump, branch, defer, call, return, Shape, act, go, invalid}
 use Rattle.machine.specs.Step.{mayRead, mayWrite, mayChoose, mayCall, mayReturn, wordQuestions}
-use Rattle.flow.proofs.Each.{Each, none, also}
+use Rattle.flow.proofs.Each.{Each, none, also, each-left, each-right}
 use Rattle.facts.specs.Facts.{unknown, isKnown, allows, within, Span, spanOf, sourceFact, resultFact}
 use Rattle.transfer.specs.Findings.{readQuestions, targetQuestions, controlQuestions, wordFindings}
-use Rattle.transfer.proofs.Membership.{each-left, each-right, each-picked}
+use Rattle.transfer.proofs.Membership.{each-picked}
 use Rattle.guarantee.proofs.Within.{known-same, within-at}
 use Rattle.guarantee.proofs.Pairs.{source-allowed, result-allowed}
 use Rattle.guarantee.proofs.Questions.{Yes}

@@ -12,13 +12,13 @@ use Rattle.choice.proofs.Laws.{and-both}
 use Rattle.machine.specs.Shape.{Source, jump, branch, defer, call, return, Shape, act, go, invalid}
 use Rattle.machine.specs.Step.{wordCount, shapeAt}
 use Rattle.flow.specs.Flow.{Pass}
-use Rattle.flow.proofs.Each.{Each, none, also}
+use Rattle.flow.proofs.Each.{Each, none, also, each-left, each-right}
 use Rattle.facts.specs.declared.Cell.{Cell}
 use Rattle.facts.specs.Facts.{spanOf}
 use Rattle.facts.specs.Record.{cellAt}
 use Rattle.transfer.specs.Passes.{pointAt, isDefer, isCall, isReturn, pageAddress, gives, canBeExecuted, wordsAt, some, wordPasses, allPasses, isCallSite, returnPasses}
 use Rattle.transfer.specs.Findings.{wordFindings, executedFindings, deferFindings}
-use Rattle.transfer.proofs.Membership.{In, first, later, each-left, each-right, each-picked, each-over, in-over, some-in}
+use Rattle.transfer.proofs.Membership.{In, first, later, each-picked, each-over, in-over, some-in}
 use Rattle.guarantee.proofs.Questions.{Yes}
 use Rattle.machine.proofs.InRange.{ShapeInRange}
 use Rattle.guarantee.proofs.Cells.{Held, Settled}

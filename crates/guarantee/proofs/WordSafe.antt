@@ -17,14 +17,14 @@ use Rattle.state.specs.State.{stackPlaces}
 use Rattle.machine.specs.Shape.{Source, Target, Control, jump, branch, defer, call, return, Shape, act, go, invalid}
 use Rattle.machine.specs.Step.{wordCount, valueOf, inPage, actState, goTo, deferTo, goState, executed}
 use Rattle.flow.specs.Flow.{Pass}
-use Rattle.flow.proofs.Each.{Each, also}
+use Rattle.flow.proofs.Each.{Each, also, each-left, each-right}
 use Rattle.facts.specs.declared.Cell.{Cell}
 use Rattle.facts.specs.Facts.{factsAfter, Span, spanOf, holds, mayBeZero, mayBeOther}
 use Rattle.facts.specs.Record.{cellAt}
 use Rattle.transfer.specs.Passes.{toward, wordPasses, isCallSite}
 use Rattle.transfer.specs.Findings.{readQuestions, targetQuestions, controlQuestions}
 use Rattle.guarantee.specs.Safe.{Inside, Returns, Given, Safe, cellIndex}
-use Rattle.transfer.proofs.Membership.{each-left, each-right, each-picked, each-over, each-overDown, below-at, same-or}
+use Rattle.transfer.proofs.Membership.{each-picked, each-over, each-overDown, below-at, same-or}
 use Rattle.machine.proofs.InRange.{SourceInRange}
 use Rattle.guarantee.proofs.Pairs.{span-holds, act-within}
 use Rattle.guarantee.proofs.Questions.{Yes}

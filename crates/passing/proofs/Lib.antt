@@ -1,3 +1,3 @@
+pub mod Joining
 pub mod Passing
-pub mod Lists
 pub mod Going

@@ -20,9 +20,11 @@ use Rattle.facts.specs.Record.{recordSize, depths, cellOf, cellAt, putCell, joi
 use Rattle.facts.proofs.Cells.{join-fine}
 use Rattle.facts.proofs.Records.{other-cell, put-layout}
 use Rattle.facts.proofs.Makes.{after-fine}
-use Rattle.cells.specs.Cells.{HasCell, Bounded}
+use Rattle.cells.specs.Cells.{Bounded}
 use Rattle.transfer.specs.Passes.{pointAt, toward, tableSpace}
-use Rattle.passing.specs.Passing.{asks, seen, Passed}
+use Rattle.marks.specs.Marks.{Noted}
+use Rattle.marks.proofs.Moving.{noted-none, noted-then}
+use Rattle.passing.specs.Passing.{asks, seen, Ready, Passed}
 
 -- facts after an act are again a value or unknown
 pub after-bounded : (facts : List ℕ) (op x : ℕ) (target : Target) → length facts ≡ 11 → Bounded facts → x ≤ unknown
@@ -38,33 +40,10 @@ after-bounded facts op x target l b h = go (ltb x 256) refl
         let e : x ≡ 256 = let q = ltb-false x 256 w in omega arith in
         subst Made (sym e) (after-fine (bank 0 0 0) op target facts (omega arith, omega arith, omega arith) (record { long = l; bounded = b }) .bounded)
 
--- which of two tables is seen
-module _ (asked t : List ℕ) where
-  pub sees-asked : 0 < length asked → seen asked t ≡ asked
-  sees-asked h = ap (λ (b : Bool). pick b asked t) (lt-ltb 0 (length asked) h)
-
-  pub sees-table : length asked ≤ 0 → seen asked t ≡ t
-  sees-table h = ap (λ (b : Bool). pick b asked t) (le-ltb 0 (length asked) h)
-
--- a cell of the one or the other, and what is handed on to it
-module _ (asked t : List ℕ) (i : ℕ) where
-  pub asked-room : 0 < length asked → HasCell (seen asked t) i → recordSize * i + recordSize ≤ length asked
-  asked-room h c =
-      let long : length asked ≡ recordSize * c .cells = sym (ap length (sees-asked asked t h)) ∙ c .layout .long in
-      omega (arith, c .inside, long)
-
-  pub table-cell : length asked ≤ 0 → HasCell (seen asked t) i → HasCell t i
-  table-cell h c = subst (λ (x : List ℕ). HasCell x i) (sees-table asked t h) c
-
-  module _ (d : Cell) where
-    pub handed-asked : 0 < length asked → {c : Cell} → c ≡ cellAt asked i → {r : Bool} → r ≡ holdsCell c d
-        → (t ≡ pick (asks asked) t (putCell t i (joinCell (cellAt t i) d))) × (not r ≡ not (holdsCell (cellAt (seen asked t) i) d))
-    handed-asked h e told = rw (lt-ltb 0 (length asked) h) (refl, ap not (told ∙ ap (λ (c : Cell). holdsCell c d) e))
-
-    pub handed-joined : length asked ≤ 0 → {u : List ℕ} → u ≡ putCell t i (joinCell (cellAt t i) d)
-        → {r : Bool} → r ≡ not (holdsCell (cellAt t i) d)
-        → (u ≡ pick (asks asked) t (putCell t i (joinCell (cellAt t i) d))) × (r ≡ not (holdsCell (cellAt (seen asked t) i) d))
-    handed-joined h e told = rw (le-ltb 0 (length asked) h) (e, told)
+-- what passes leave is ready for more
+pub still-ready : {image asked : List ℕ} {d : ℕ} {t u m n : List ℕ} {ps : List (Pass Cell)} {r : Bool} → Ready image asked t m
+    → Passed image asked d t m ps u n r → Ready image asked u n
+still-ready g p = record { words = g .words; layout = p .laid; sited = λ e. p .noted e .moves .sited }
 
 not-both : (a b : Bool) → (not a || not b) ≡ not (a && b)
 not-both true b = refl
@@ -72,16 +51,18 @@ not-both false b = refl
 
 module _ {image asked : List ℕ} where
   -- what is told of one list of passes holds of the list that equals it
-  pub passed-as : {d : ℕ} {t u : List ℕ} {ps qs : List (Pass Cell)} {r : Bool} → ps ≡ qs → Passed image asked d t qs u r → Passed image asked d t ps u r
-  passed-as {d = d} {t = t} {u = u} {r = r} e p = subst⁻¹ (λ (l : List (Pass Cell)). Passed image asked d t l u r) e p
+  pub passed-as : {d : ℕ} {t u m n : List ℕ} {ps qs : List (Pass Cell)} {r : Bool} → ps ≡ qs → Passed image asked d t m qs u n r → Passed image asked d t m ps u n r
+  passed-as {d = d} {t = t} {u = u} {m = m} {n = n} {r = r} e p = subst⁻¹ (λ (l : List (Pass Cell)). Passed image asked d t m l u n r) e p
 
-  pub passed-none : {d : ℕ} {t : List ℕ} → Layout (depths * wordCount image) (seen asked t) → Passed image asked d t [] t false
+  pub passed-none : {d : ℕ} {t m : List ℕ} → Ready image asked t m → Passed image asked d t m [] t m false
   passed-none {t = t} g =
       record {
         table = same-table (asks asked);
         flag = no-flag (asks asked);
-        laid = g;
+        laid = g .layout;
         kept = λ i l. refl;
+        noted = λ e. noted-none (g .sited e);
+        spared = λ e. refl;
       }
     where
       same-table : (b : Bool) → t ≡ pick b t (joinAll (tableSpace image) t [])
@@ -92,14 +73,16 @@ module _ {image asked : List ℕ} where
       no-flag true = ap not (sym (allCovered-nil (tableSpace image) asked))
       no-flag false = sym (changesAll-nil (tableSpace image) t)
 
-  pub passed-then : {d : ℕ} {t u v : List ℕ} {ps qs : List (Pass Cell)} {r s : Bool} → Passed image asked d t ps u r → Passed image asked d u qs v s
-      → Passed image asked d t (ps ++ qs) v (r || s)
+  pub passed-then : {d : ℕ} {t u v m n o : List ℕ} {ps qs : List (Pass Cell)} {r s : Bool} → Passed image asked d t m ps u n r → Passed image asked d u n qs v o s
+      → Passed image asked d t m (ps ++ qs) v o (r || s)
   passed-then {t = t} {u = u} {v = v} {ps = ps} {qs = qs} {r = r} {s = s} p q =
       record {
         table = both-tables (asks asked) (p .table) (q .table);
         flag = both-flags (asks asked) (p .table) (p .flag) (q .flag);
         laid = q .laid;
         kept = λ i l. q .kept i l ∙ p .kept i l;
+        noted = λ e. noted-then (p .noted e) (q .noted e);
+        spared = λ e. q .spared e ∙ p .spared e;
       }
     where
       both-tables : (b : Bool) → u ≡ pick b t (joinAll (tableSpace image) t ps) → v ≡ pick b u (joinAll (tableSpace image) u qs)
@@ -119,29 +102,39 @@ module _ {image asked : List ℕ} where
           ∙ sym (changesAll-append (tableSpace image) t ps qs)
 
   -- what keeps the cells below a depth keeps those below a lower one
-  pub passed-higher : {d e : ℕ} {t u : List ℕ} {ps : List (Pass Cell)} {r : Bool} → d ≤ e → Passed image asked e t ps u r → Passed image asked d t ps u r
+  pub passed-higher : {d e : ℕ} {t u m n : List ℕ} {ps : List (Pass Cell)} {r : Bool} → d ≤ e → Passed image asked e t m ps u n r → Passed image asked d t m ps u n r
   passed-higher {d = d} {e = e} h p =
       record {
         table = p .table;
         flag = p .flag;
         laid = p .laid;
         kept = λ i l. let m = mul-le-mul-right (wordCount image) h in p .kept i (omega arith);
+        noted = p .noted;
+        spared = p .spared;
       }
 
   -- the lent table is as long as it was
-  pub passed-size : {d : ℕ} {t u : List ℕ} {ps : List (Pass Cell)} {r : Bool} → Layout (depths * wordCount image) (seen asked t)
-      → Passed image asked d t ps u r → length u ≡ length t
-  passed-size {t = t} {u = u} {ps = ps} g p = go (asks asked) g (p .laid) (p .table)
+  pub passed-size : {d : ℕ} {t u m n : List ℕ} {ps : List (Pass Cell)} {r : Bool} → Ready image asked t m
+      → Passed image asked d t m ps u n r → length u ≡ length t
+  passed-size {t = t} {u = u} {ps = ps} g p = go (asks asked) (g .layout) (p .laid) (p .table)
     where
       go : (b : Bool) → Layout (depths * wordCount image) (pick b asked t) → Layout (depths * wordCount image) (pick b asked u)
           → u ≡ pick b t (joinAll (tableSpace image) t ps) → length u ≡ length t
       go true g h e = ap length e
       go false g h e = h .long ∙ sym (g .long)
 
+  -- and so are the marks
+  pub passed-marks : {d : ℕ} {t u m n : List ℕ} {ps : List (Pass Cell)} {r : Bool} → Ready image asked t m → Passed image asked d t m ps u n r → length n ≡ length m
+  passed-marks {m = m} {n = n} g p = go (asks asked) refl
+    where
+      go : (b : Bool) → asks asked ≡ b → length n ≡ length m
+      go true e = ap length (p .spared e)
+      go false e = p .noted e .moves .sited .long ∙ sym (g .sited e .long)
+
 -- ---- one pass
-module _ (image asked t : List ℕ) (d a : ℕ) (facts : List ℕ) (g : Layout (depths * wordCount image) (seen asked t)) (s : d < depths) (f : FineCell (cellOf true facts)) where
+module _ (image asked t m : List ℕ) (d a : ℕ) (facts : List ℕ) (g : Ready image asked t m) (s : d < depths) (f : FineCell (cellOf true facts)) where
   -- where the address is outside the image
-  pub passed-nowhere : wordCount image ≤ a → Passed image asked d t (toward (wordCount image) d a facts) t false
+  pub passed-nowhere : wordCount image ≤ a → Passed image asked d t m (toward (wordCount image) d a facts) t m false
   passed-nowhere h = rw (le-ltb a (wordCount image) h) (passed-none g)
 
   module _ (h : a < wordCount image) where
@@ -174,16 +167,18 @@ module _ (image asked t : List ℕ) (d a : ℕ) (facts : List ℕ) (g : Layout (
         fine : FineCell joined
         fine = join-fine (cellAt t point) (cellOf true facts) (l .fine point point-inside) f
 
-    pub passed-toward : {u : List ℕ} {r : Bool} → u ≡ pick (asks asked) t (putCell t (pointAt (wordCount image) d a) joined)
-        → r ≡ not (holdsCell (cellAt (seen asked t) (pointAt (wordCount image) d a)) (cellOf true facts))
-        → Passed image asked d t (toward (wordCount image) d a facts) u r
-    passed-toward {u = u} {r = r} e c =
+    pub passed-toward : {u n : List ℕ} {r : Bool} → u ≡ pick (asks asked) t (putCell t (pointAt (wordCount image) d a) joined)
+        → r ≡ not (holdsCell (cellAt (seen asked t) (pointAt (wordCount image) d a)) (cellOf true facts)) → (asks asked ≡ false → Noted image t m u n) → (asks asked ≡ true → n ≡ m)
+        → Passed image asked d t m (toward (wordCount image) d a facts) u n r
+    passed-toward {u = u} {r = r} e c told same =
         rw (lt-ltb a (wordCount image) h)
         (record {
           table = one-table (asks asked) e;
           flag = one-flag (asks asked) c;
-          laid = after (asks asked) g e .laid;
-          kept = λ i l. after (asks asked) g e .others i (omega (arith, point-inside)) (λ q. omega arith);
+          laid = after (asks asked) (g .layout) e .laid;
+          kept = λ i l. after (asks asked) (g .layout) e .others i (omega (arith, point-inside)) (λ q. omega arith);
+          noted = told;
+          spared = same;
         })
       where
         one-table : (b : Bool) → u ≡ pick b t (putCell t (pointAt (wordCount image) d a) joined) → u ≡ pick b t (joinAll (tableSpace image) t (pass ∷ []))
@@ -196,7 +191,7 @@ module _ (image asked t : List ℕ) (d a : ℕ) (facts : List ℕ) (g : Layout (
         one-flag false c = c ∙ sym (changesAll-one (tableSpace image) t pass)
 
   -- a pass leaves every cell but its target
-  pub toward-keeps : {u : List ℕ} {r : Bool} → Passed image asked d t (toward (wordCount image) d a facts) u r
+  pub toward-keeps : {u n : List ℕ} {r : Bool} → Passed image asked d t m (toward (wordCount image) d a facts) u n r
       → (i : ℕ) → i < depths * wordCount image → (i ≡ pointAt (wordCount image) d a → ⊥) → cellAt (seen asked u) i ≡ cellAt (seen asked t) i
   toward-keeps {u = u} p i l ne = go (ltb a (wordCount image)) refl (p .table)
     where
@@ -211,7 +206,7 @@ module _ (image asked t : List ℕ) (d a : ℕ) (facts : List ℕ) (g : Layout (
       go : (b : Bool) → ltb a (wordCount image) ≡ b
           → u ≡ pick (asks asked) t (joinAll (tableSpace image) t (pick b (record { target = pointAt (wordCount image) d a; cell = cellOf true facts } ∷ []) []))
           → cellAt (seen asked u) i ≡ cellAt (seen asked t) i
-      go true w e = let h = ltb-true a (wordCount image) w in after h (asks asked) g (one h (asks asked) e) .others i l ne
+      go true w e = let h = ltb-true a (wordCount image) w in after h (asks asked) (g .layout) (one h (asks asked) e) .others i l ne
       go false w e = none (asks asked) e
 
 -- the first place of a depth is a small number
@@ -219,10 +214,10 @@ pub small-depth : (image : List ℕ) (d : ℕ) → wordCount image ≤ 8192 → 
 small-depth image d w h = let m = mul-le-mul-right {m = d} {n = 8} (wordCount image) (omega arith) in omega arith
 
 -- ---- passes by a test
-pub passed-if : {image asked : List ℕ} {d : ℕ} {t u : List ℕ} (b : Bool) (ps : List (Pass Cell)) {r : Bool} → b ≡ true → Passed image asked d t ps u r
-    → Passed image asked d t (pick b ps []) u r
+pub passed-if : {image asked : List ℕ} {d : ℕ} {t u m n : List ℕ} (b : Bool) (ps : List (Pass Cell)) {r : Bool} → b ≡ true → Passed image asked d t m ps u n r
+    → Passed image asked d t m (pick b ps []) u n r
 passed-if b ps e p = rw e p
 
-pub passed-not : (image asked : List ℕ) (d : ℕ) (t : List ℕ) (b : Bool) (ps : List (Pass Cell)) → b ≡ false → Layout (depths * wordCount image) (seen asked t)
-    → Passed image asked d t (pick b ps []) t false
-passed-not image asked d t b ps e g = rw e (passed-none g)
+pub passed-not : (image asked : List ℕ) (d : ℕ) (t m : List ℕ) (b : Bool) (ps : List (Pass Cell)) → b ≡ false → Ready image asked t m
+    → Passed image asked d t m (pick b ps []) t m false
+passed-not image asked d t m b ps e g = rw e (passed-none g)

@@ -1,8 +1,10 @@
 pub mod Examples
 pub mod Membership
+pub mod Lists
 pub mod Ranges
 pub mod Wider
 pub mod TableLaws
+pub mod Returns
 pub mod LeastTable
 pub mod Numbers
 pub mod First

@@ -43,13 +43,6 @@ module _ {A : Type 0} where
   in-right [] i = i
   in-right (y ∷ xs) i = later (in-right xs i)
 
-  -- both parts of what is joined
-  pub each-left : {P : A → Type 0} (xs ys : List A) → Each P (xs ++ ys) → Each P xs
-  each-left xs ys e = each-from xs (λ x i. each-at e (in-left ys i))
-
-  pub each-right : {P : A → Type 0} (xs ys : List A) → Each P (xs ++ ys) → Each P ys
-  each-right xs ys e = each-from ys (λ x i. each-at e (in-right xs i))
-
   -- the list that a test chooses
   pub in-picked : {x : A} (b : Bool) {xs : List A} → b ≡ true → In x xs → In x (pick b xs [])
   in-picked true h i = i

@@ -16,7 +16,7 @@ use Rattle.state.specs.State.{stackPlaces}
 use Rattle.machine.specs.Shape.{Source, Target, jump, branch, defer, call, return, Shape, act, go, invalid}
 use Rattle.machine.specs.Step.{wordCount, shapeAt, inPage}
 use Rattle.flow.specs.Flow.{Pass, Below, Least, sumWeights}
-use Rattle.flow.proofs.Each.{Each, none, also, each-append}
+use Rattle.flow.proofs.Each.{Each, none, also, each-append, each-left, each-right}
 use Rattle.flow.proofs.Lawful.{Lawful, Fits}
 use Rattle.flow.proofs.Grows.{Covered, each-covered, covered-each}
 use Rattle.flow.proofs.Weights.{sumWeights-bound}
@@ -29,7 +29,7 @@ use Rattle.facts.proofs.Mask.{unreached-fine, zeros-record, zeros-read}
 use Rattle.facts.proofs.Records.{part, part-at, part-length, stored-cell, other-cell, put-layout, same-table}
 use Rattle.facts.proofs.Makes.{FineFacts, after-fine}
 use Rattle.transfer.specs.Passes.{pointAt, toward, isReturn, isCall, wordsAt, some, wordPasses, allPasses, isCallSite, returnPasses, cellPasses, passesFrom, tableSpace, tableLength, startTable, sweepBound, leastTable}
-use Rattle.transfer.proofs.Membership.{each-left, each-right, each-picked, each-overDown, each-pick, over-each, down-each}
+use Rattle.transfer.proofs.Membership.{each-picked, each-overDown, each-pick, over-each, down-each}
 use Rattle.machine.proofs.InRange.{ShapeInRange, shape-at-in-range}
 use Rattle.transfer.proofs.Wider.{words-wider, words-fit, some-wider, toward-wider, word-wider, passes-at, passes-from}
 
@@ -40,10 +40,10 @@ pub reached-fine : (fs : List ℕ) → FineFacts fs → FineCell (cellOf true fs
 reached-fine fs f = record { facts = f .long; bounded = f .bounded; blank = λ e. absurd (false≢true (sym e)) }
 
 -- a cell's depth and address
-depth-of : (i n : ℕ) → i < depths * n → i / n < depths
+pub depth-of : (i n : ℕ) → i < depths * n → i / n < depths
 depth-of i n h = let some : 0 < n = omega arith in div-lt-iff-lt-mul {k = n} {x = i} {y = depths} some .1 h
 
-address-of : (i n : ℕ) → i < depths * n → i % n < n
+pub address-of : (i n : ℕ) → i < depths * n → i % n < n
 address-of i n h = mod-lt i (omega arith)
 
 -- every cell holds what is not reached
@@ -111,13 +111,17 @@ module _ (image : List ℕ) (bytes : (k : ℕ) → getD image k 0 < 256) where
     word-fits depth pc fs (go source return) s d f = none
     word-fits depth pc fs invalid s d f = none
 
+    pub returns-fit : (t : List ℕ) (depth : ℕ) (fs : List ℕ) → depth < depths → F fs → Each (Fits (tableSpace image) Fine) (returnPasses image t depth fs)
+    returns-fit t depth fs d f =
+        down-each (wordCount image) (isCallSite image t depth) (λ a. toward (wordCount image) depth (a + 1) fs) (λ a l s. toward-fits depth (a + 1) fs d f)
+
     cell-fits : (t : List ℕ) (depth pc : ℕ) (fs : List ℕ) → depth < depths → F fs → Each Fit (cellPasses image t depth pc fs)
     cell-fits t depth pc fs d f =
         each-append
         (passes-from image t (wordCount image) depth pc fs (wordsAt image pc fs (shapeAt image pc))
         (λ w i. word-fits depth pc fs w (words-fit image bytes pc (shapeAt image pc) fs (shape-at-in-range image bytes pc) i) d f))
         (each-pick (ltb 0 depth && some isReturn (wordsAt image pc fs (shapeAt image pc)))
-        (λ h. down-each (wordCount image) (isCallSite image t (depth - 1)) (λ a. toward (wordCount image) (depth - 1) (a + 1) fs) (λ a l s. toward-fits (depth - 1) (a + 1) fs (omega arith) f)))
+        (λ h. returns-fit t (depth - 1) fs (omega arith) f))
 
     pub passes-fit : (t : List ℕ) (i : ℕ) → i < depths * wordCount image → F (cellAt t i .facts) → Each (Fits (tableSpace image) Fine) (passesFrom image t i)
     passes-fit t i l f =
@@ -126,7 +130,7 @@ module _ (image : List ℕ) (bytes : (k : ℕ) → getD image k 0 < 256) where
 
   -- ---- a higher table holds what a cell of a lower one passes on
 
-  site-wider : (t u : List ℕ) → Below (tableSpace image) t u → (depth a : ℕ) → depth < depths → a < wordCount image
+  pub site-wider : (t u : List ℕ) → Below (tableSpace image) t u → (depth a : ℕ) → depth < depths → a < wordCount image
       → isCallSite image t depth a ≡ true → isCallSite image u depth a ≡ true
   site-wider t u b depth a d l s =
       let i = pointAt (wordCount image) depth a in

@@ -15,7 +15,7 @@ use Rattle.state.specs.State.{stackPlaces}
 use Rattle.machine.specs.Shape.{Source, jump, branch, defer, call, return, Shape, act, go, invalid}
 use Rattle.machine.specs.Step.{shapeAt, inPage}
 use Rattle.flow.specs.Flow.{Pass}
-use Rattle.flow.proofs.Each.{Each, none, also, each-append}
+use Rattle.flow.proofs.Each.{Each, none, also, each-append, each-left, each-right}
 use Rattle.flow.proofs.Grows.{Covered}
 use Rattle.facts.specs.declared.Cell.{Cell}
 use Rattle.facts.specs.Facts.{allKnowNoMore, spanOf, mayBeZero, mayBeOther, factsAfter}
@@ -23,7 +23,7 @@ use Rattle.facts.specs.Record.{cellOf, holdsCell, cellAt}
 use Rattle.facts.proofs.Cells.{holds-trans}
 use Rattle.facts.proofs.Makes.{FineFacts, after-no-more, span-cases, span-bytes}
 use Rattle.transfer.specs.Passes.{over, pointAt, toward, gives, pageAddress, canBeExecuted, wordsAt, some, wordPasses, allPasses, tableSpace}
-use Rattle.transfer.proofs.Membership.{In, first, later, each-left, each-right, each-picked, each-over, each-pick, over-each, in-over, in-one, over-in, some-in, some-out}
+use Rattle.transfer.proofs.Membership.{In, first, later, each-picked, each-over, each-pick, over-each, in-over, in-one, over-in, some-in, some-out}
 use Rattle.machine.proofs.InRange.{ShapeInRange, shape-at-in-range}
 use Rattle.transfer.proofs.Ranges.{PageFits, page-fits}
 

@@ -5,49 +5,52 @@ use denote.Ref.{now}
 use borrow.Author.Needs.{needs}
 use Rattle.machine.specs.Step.{wordCount}
 use Rattle.passing.specs.Passing.{Passed}
-use Rattle.passing.proofs.Passing.{passed-size}
+use Rattle.passing.proofs.Passing.{passed-size, passed-marks, still-ready}
 use Rattle.passing.proofs.Going.{calledTo, call-begins, call-next, call-passed, call-none}
 use Rattle.passing.proofs.pass_call.Statement.{statement}
 use Rattle.passing.proofs.pass_call.Tie as tie
 
 abbrev Inv-loop : tie.InvT-loop
-Inv-loop image asked table₀ depth pc facts i v changed₀ n₀ table changed n =
-    (n ≤ v .count) × Passed image asked depth table₀ (calledTo (wordCount image) depth facts i (v .low) n) table changed
+Inv-loop image asked table₀ marks₀ depth pc facts i v changed₀ n₀ table marks changed n =
+    (n ≤ v .count) × Passed image asked depth table₀ marks₀ (calledTo (wordCount image) depth facts i (v .low) n) table marks changed
 
 abbrev μ-loop : tie.MeasureT-loop
-μ-loop image asked table₀ depth pc facts i v changed₀ n₀ table changed n = v .count - n
+μ-loop image asked table₀ marks₀ depth pc facts i v changed₀ n₀ table marks changed n = v .count - n
 
 returns : tie.Need-returns Inv-loop μ-loop
 returns c =
-    let start = c .before .before .before .before in
+    let start = c .before .before .before .before .before in
     let a = start .args in
-    call-none (now (a .image)) (now (a .asked)) (a .depth) (a .pc) (a .facts) (a .i) (now (a .table)) (c .if1 .taken) (start .pre .0 .layout)
+    call-none (now (a .image)) (now (a .asked)) (a .depth) (a .pc) (a .facts) (a .i) (now (a .table)) (now (a .marks)) (c .if1 .taken) (start .pre .0)
 
 loop-holds : tie.Need-loop-holds Inv-loop μ-loop
 loop-holds c =
-    let start = c .before .before .before .before .before in
+    let start = c .before .before .before .before .before .before in
     let a = start .args in
-    (omega arith, call-begins (now (a .image)) (now (a .asked)) (a .depth) (a .facts) (a .i) (c .values-of .result .low) (start .pre .0 .layout))
+    (omega arith, call-begins (now (a .image)) (now (a .asked)) (a .depth) (a .facts) (a .i) (c .values-of .result .low) (start .pre .0))
 
 pass-requires : tie.Need-pass-requires Inv-loop μ-loop
 pass-requires c κs =
-    let start = c .before .before .before .before .before .before .before .before .before .before in
-    let shallow = c .before .before .before .before .before .before .if1 .left in
-    (record { words = start .pre .0 .words; layout = c .before .before .before .before .loop .inv .1 .laid }, omega (arith, shallow, start .pre .1), start .pre .2)
+    let start = c .before .before .before .before .before .before .before .before .before .before .before .before in
+    let shallow = c .before .before .before .before .before .before .before .if1 .left in
+    (still-ready (start .pre .0) (c .before .before .before .before .before .loop .inv .1), omega (arith, shallow, start .pre .1), start .pre .2)
 
 loop-again : tie.Need-loop-again Inv-loop μ-loop
 loop-again c =
-    let start = c .before .before .before .before .before .before .before .before .before .before .before .before .before in
+    let start = c .before .before .before .before .before .before .before .before .before .before .before .before .before .before .before .before .before in
     let a = start .args in
-    let p = c .before .before .before .before .before .before .before .loop in
-    (omega (arith, c .before .before .before .before .before .if2 .taken), call-next (now (a .image)) (now (a .asked)) (a .depth) (a .facts) (a .i) (c .before .before .before .before .before .before .before .before .values-of .result .low) (p .n) (p .inv .1) (c .before .before .pass .ensures))
+    let p = c .before .before .before .before .before .before .before .before .before .before .loop in
+    (omega (arith, c .before .before .before .before .before .before .before .before .if2 .taken), call-next (now (a .image)) (now (a .asked)) (a .depth) (a .facts) (a .i) (c .before .before .before .before .before .before .before .before .before .before .before .values-of .result .low) (p .n) (p .inv .1) (c .before .before .before .before .pass .ensures))
 
 same-length : tie.Need-same-length Inv-loop μ-loop
-same-length c = passed-size (c .before .before .before .before .before .before .before .before .pre .0 .layout) (c .before .before .loop .inv .1)
+same-length c = passed-size (c .before .before .before .before .before .before .before .before .before .pre .0) (c .before .before .loop .inv .1)
+
+same-length-2 : tie.Need-same-length-2 Inv-loop μ-loop
+same-length-2 c = passed-marks (c .before .before .before .before .before .before .before .before .before .pre .0) (c .before .before .loop .inv .1)
 
 returns-2 : tie.Need-returns-2 Inv-loop μ-loop
 returns-2 c =
-    let start = c .before .before .before .before .before .before .before .before in
+    let start = c .before .before .before .before .before .before .before .before .before in
     let a = start .args in
     let p = c .before .before .loop in
     let shallow = c .before .before .before .before .if1 .left in
@@ -59,4 +62,4 @@ pass-call-spec =
     tie.close
     (tie.spec Inv-loop μ-loop returns (λ c κs. search needs) loop-holds (λ c. search needs) (λ c. search needs)
     (λ c. search needs) (λ c. search needs) pass-requires (λ c. search needs) (λ c. search needs) loop-again
-    same-length returns-2)
+    same-length same-length-2 returns-2)

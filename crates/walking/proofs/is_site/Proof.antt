@@ -1,37 +1,37 @@
 -- `walking::is_site` meets its contract. Assumes nothing.
-use mathlib.Core.List.{List}
-use mathlib.Core.Path.{sym, _∙_, ap}
-use Prim.Native.Nat.{ℕ}
+use native.Mathlib.Omega.{arith}
 use denote.Ref.{now}
-use Rattle.transfer.specs.Passes.{isCallSite}
-use Rattle.passing.proofs.Passing.{sees-asked, sees-table}
-use Rattle.walking.proofs.Returning.{held-as}
+use borrow.Author.Needs.{needs}
+use Rattle.machine.specs.Step.{wordCount}
+use Rattle.callers.proofs.Points.{point-small, point-room}
+use Rattle.callers.proofs.Sites.{no-site}
 use Rattle.walking.proofs.is_site.Statement.{statement}
 use Rattle.walking.proofs.is_site.Tie as tie
 
-is-call-site-requires : tie.Need-is-call-site-requires
-is-call-site-requires c κs =
-    let start = c .before .before .before .before in
+mul-reached : tie.Need-mul-reached
+mul-reached c =
+    let start = c .before .before in
     let a = start .args in
-    (held-as (now (a .image)) (sees-asked (now (a .asked)) (now (a .table)) (c .if1 .taken)) (start .pre .0), start .pre .1, start .pre .2 .inside)
+    omega (arith, point-small (wordCount (now (a .image))) (a .depth) (a .a) (start .pre .2) (start .pre .1) (start .pre .0 .words))
+
+add-reached : tie.Need-add-reached
+add-reached c =
+    let start = c .before .before in
+    let a = start .args in
+    omega (arith, point-small (wordCount (now (a .image))) (a .depth) (a .a) (start .pre .2) (start .pre .1) (start .pre .0 .words))
+
+reached-requires : tie.Need-reached-requires
+reached-requires c κs =
+    let start = c .before .before in
+    let a = start .args in
+    omega (arith, point-room (wordCount (now (a .image))) (a .depth) (a .a) (start .pre .2) (start .pre .1), start .pre .0 .long)
 
 returns : tie.Need-returns
 returns c =
-    let a = c .before .before .before .before .before .args in
-    c .is-call-site .ensures
-    ∙ sym (ap (λ (t : List ℕ). isCallSite (now (a .image)) t (a .depth) (a .a)) (sees-asked (now (a .asked)) (now (a .table)) (c .before .if1 .taken)))
-
-is-call-site-requires-2 : tie.Need-is-call-site-requires-2
-is-call-site-requires-2 c κs =
-    let start = c .before .before .before .before in
-    let a = start .args in
-    (held-as (now (a .image)) (sees-table (now (a .asked)) (now (a .table)) (c .if1 .left)) (start .pre .0), start .pre .1, start .pre .2 .inside)
-
-returns-2 : tie.Need-returns-2
-returns-2 c =
-    let a = c .before .before .before .before .before .args in
-    c .is-call-site2 .ensures
-    ∙ sym (ap (λ (t : List ℕ). isCallSite (now (a .image)) t (a .depth) (a .a)) (sees-table (now (a .asked)) (now (a .table)) (c .before .if1 .left)))
+    let a = c .before .before .before .before .args in
+    no-site (now (a .image)) (now (a .asked)) (a .depth) (a .a) (c .before .reached .ensures) (c .if1 .taken)
 
 pub is-site-spec : {M : Type 1} → statement M
-is-site-spec = tie.close (tie.spec is-call-site-requires returns is-call-site-requires-2 returns-2)
+is-site-spec =
+    tie.close
+    (tie.spec mul-reached add-reached reached-requires returns (λ c κs. search needs) (λ c. search needs))

@@ -2,13 +2,14 @@
 use mathlib.Core.Path.{_≡_, refl, sym, _∙_, ap, ap₂}
 use mathlib.Core.Bool.{Bool, true, false, not, false≢true}
 use mathlib.Core.List.{List, [], _∷_, _++_, append-assoc, append-nil}
-use Prim.Native.Nat.{ℕ, zero, suc, _+_, _-_, _<_}
+use Prim.Native.Nat.{ℕ, zero, suc, _+_, _-_, _≤_, _<_}
+use native.Mathlib.Decide.{ℕ-discrete}
 use native.Mathlib.Omega.{arith}
 use Rattle.choice.specs.Choice.{pick}
 use Rattle.machine.specs.Shape.{jump, branch, defer, call, return, Shape, act, go, invalid}
 use Rattle.flow.specs.Flow.{Pass}
 use Rattle.facts.specs.declared.Cell.{Cell}
 use Rattle.transfer.specs.Passes.{over, overDown, isDefer, wordPasses, allPasses}
 
 module _ {A : Type 0} (test : ℕ → Bool) (f : ℕ → List A) where
   -- the last place stands apart
@@ -43,6 +44,17 @@ module _ {A : Type 0} (test : ℕ → Bool) (f : ℕ → List A) where
   down-more (suc n) h =
       let here : suc n - 1 ≡ n = omega arith in
       ap (λ (k : ℕ). pick (test k) (f k) [] ++ overDown k test f) (sym here)
+
+  -- places that fail the test gather nothing
+  pub down-skip : (n k : ℕ) → k ≤ n → ((j : ℕ) → k ≤ j → j < n → test j ≡ false) → overDown n test f ≡ overDown k test f
+  unfolding overDown
+  down-skip zero k l h = let none : k ≡ 0 = omega arith in ap (λ (j : ℕ). overDown j test f) (sym none)
+  down-skip (suc n) k l h = go (ℕ-discrete k (suc n)) (λ m. down-skip n k m (λ j a b. h j a (omega arith)))
+    where
+      go : Dec (k ≡ suc n) → (k ≤ n → overDown n test f ≡ overDown k test f) → overDown (suc n) test f ≡ overDown k test f
+      go (yes e) later = ap (λ (j : ℕ). overDown j test f) (sym e)
+      go (no ne) later =
+          ap (λ (b : Bool). pick b (f n) [] ++ overDown n test f) (h n (omega (arith, ne)) (omega arith)) ∙ later (omega (arith, ne))
 
 -- tests that agree below n gather the same there
 pub down-same : {A : Type 0} (test test′ : ℕ → Bool) (f : ℕ → List A) (n : ℕ) → ((k : ℕ) → k < n → test k ≡ test′ k) → overDown n test f ≡ overDown n test′ f

@@ -1,0 +1,2 @@
+pub mod Bitset
+pub mod Words
