@@ -1,6 +1,9 @@
 //! The library against the independent reference: random images, maps, states, recordings and tables, valid and damaged.
 //! `RIPTIDE_CASES` sets how many cases are run (default 20,000).
 
+mod common;
+
+use common::images::{lively, mixed, mixture, FEW_RETURNS};
 use riptide::{admit, check, count_sets, foretell, list, page_length, read_word, records, reset, run, write_word};
 use riptide::{table_length, trace_length};
 use riptide::{AdmitAnswer, Answered, CheckAnswer, Fields, Refusal, RunAnswer, TraceRecord};
@@ -167,6 +170,36 @@ fn admission_equal_to_the_reference() {
     println!("{cases} cases, {admitted} admitted, {refused} refused, findings 21-29: {:?}", &found[21..]);
     println!("a lower address had a finding in {lower_address}, a cell another number in {other_number}");
     assert!(cases < 1000 || lower_address > 0 && other_number > 0);
+}
+
+/// The whole table and the count, over images of many CALLs, RETs and XECs: most are small, some have thousands of words.
+#[test]
+fn sweeps_of_calls_returns_and_xecs() {
+    let mut random = Random(0xca11);
+    let (mut admitted, mut long, mut most) = (0, 0, 0);
+    let images = cases() / 4;
+    for case in 0..images {
+        let limit = random.pick(&[8, 20, 20, 40, 40]);
+        let n = 1 + random.below(limit);
+        let words = match case % 200 {
+            0..20 => random_program(&mut random, 1 + n / 3, 8),
+            20 => mixture(&mut random, 5 * n),
+            21 => lively(mixed(&mut random, 100 * n, FEW_RETURNS)),
+            _ => mixture(&mut random, n),
+        };
+        let image = bytes_of(&words);
+        let mut table = random_bytes(&mut random, table_length(&image));
+        let mut table2 = table.clone();
+        let Answered { answer, sweeps } = admit(&image, &[255; 128], &mut table);
+        let theirs = reference_admit(&image, &[255; 128], &mut table2);
+        assert_eq!((told_verdict(answer), sweeps as usize), (theirs.verdict, theirs.sweeps), "case {case}");
+        assert!(table == table2, "table of case {case}");
+        admitted += usize::from(answer == AdmitAnswer::Admitted);
+        long += usize::from(sweeps > 10);
+        most = most.max(sweeps);
+    }
+    println!("{images} images, {long} of more than 10 sweeps, at most {most}; {admitted} admitted");
+    assert!(images < 1000 || admitted > 0 && long > 0);
 }
 
 /// Counts that follow from how the images are made, up to the longest ones; the map and what the table held do not matter.
