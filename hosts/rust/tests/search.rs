@@ -79,7 +79,7 @@ fn climbed(round: u64) -> (String, Vec<u16>, Work) {
     let (name, mut words) = match random.below(3) {
         0 => ("a mixture", mixture(&mut random, small)),
         1 => starts.swap_remove(random.below(starts.len())),
-        _ => starts.swap_remove(starts.len() - 1 - random.below(8)), // the most hostile ones
+        _ => starts.swap_remove(starts.len() - 1 - random.below(9)), // the most hostile ones
     };
     loop {
         let mut best = Trial::of(&words, rungs).work;

@@ -10,6 +10,7 @@ const JMP: u16 = 0xe000;
 const READ: u16 = 0x1700; // MOVE left bit 7, 8 bits -> AUX, or with R1 to R6, R11 and the addresses in the low bits
 const NZT: u16 = 0xa100; // NZT R1
 const NZT_AUX: u16 = 0xa000;
+const NZT_R2: u16 = 0xa200;
 const XEC: u16 = 0x8100; // XEC R1
 const XEC_AUX: u16 = 0x8000;
 
@@ -125,15 +126,14 @@ pub fn sites_one_a_sweep(n: usize) -> Vec<u16> {
 }
 
 /// A routine in a page of its own: all facts but AUX are known at first, and each of ten returns knows one less than the
-/// one before; then AUX alone is known, and it goes on to `on`.
-fn ever_wider_returns(words: &mut [u16], at: usize, on: [u16; 2]) {
+/// one before; then AUX alone is known, and the word `on` goes on.
+fn ever_wider_returns(words: &mut [u16], at: usize, on: u16) {
     words[at..at + 10].copy_from_slice(&RESTORES);
     for (k, &loss) in LOSSES[..10].iter().enumerate() {
         let at = at + 10 + 3 * k;
-        words[at..at + 3].copy_from_slice(&[loss, 0xa200 | (at + 3) as u16 % 256, RET]);
-        // NZT R2
+        words[at..at + 3].copy_from_slice(&[loss, NZT_R2 | ((at + 3) % 256) as u16, RET]);
     }
-    words[at + 40..at + 42].copy_from_slice(&on);
+    words[at + 40] = on;
 }
 
 /// At every depth a third of the words may call and may return, and a third are calls of which a sweep reaches one more.
@@ -141,7 +141,7 @@ fn ever_wider_returns(words: &mut [u16], at: usize, on: [u16; 2]) {
 pub fn wider_returns_after_each_call(n: usize) -> Vec<u16> {
     let (mut words, row) = (vec![NOP; n], n / 3 / 32 * 32);
     words[0] = JMP | 64;
-    ever_wider_returns(&mut words, 1, [NOP, JMP | 64]);
+    ever_wider_returns(&mut words, 1, JMP | 64);
     for page in (64..row).step_by(32) {
         words[page..page + 28].fill(0x975d); // XEC left bit 7, 2 bits, from place 29 on
         words[page + 28..page + 32].copy_from_slice(&[jump(page + 32), CALL | 1, RET, NOP]);
@@ -191,20 +191,27 @@ pub fn xec_pages_of_jumps(n: usize) -> Vec<u16> {
     })
 }
 
-/// At every depth nearly all words are XECs of R1 that execute XMIT 0, R1 as long as R1 is 0. Nine of ten returns, each wider
-/// than the one before, leave it so; the last, with R1 unknown, makes one more XEC a call site in each sweep, and the ten pass
-/// on to all call sites again.
-pub fn late_sites(n: usize) -> Vec<u16> {
-    let mut words: Vec<u16> = (0..n).map(|_| XEC | 2).collect();
-    for page in (0..n).step_by(256) {
+/// At every depth nearly all words from `row` on are XECs of R1 that execute XMIT 0, R1 as long as R1 is 0. Nine of ten
+/// returns, each wider than the one before, leave it so, as do the words between, which all may return. The last return, with
+/// R1 unknown, makes one more XEC a call site in each sweep, and all pass on to the call sites again.
+pub fn late_sites(n: usize, row: usize) -> Vec<u16> {
+    let mut words = vec![XEC | 2; n];
+    for page in (row..n).step_by(256) {
         words[page + 1..page + 4].copy_from_slice(&[NZT_AUX | 4, 0xc100, CALL]);
         // 0xc100: XMIT 0, R1
     }
-    words[..256].fill(RET);
-    (words[0], words[1]) = (0xc001, JMP | 511); // XMIT 1, AUX
-    words[256..512].fill(RET);
-    ever_wider_returns(&mut words, 256, [0xc100, JMP | 511]); // in the page of AUX 1
-    words[511] = CALL;
+    words[..row].fill(RET);
+    (words[0], words[1]) = (0xc001, jump(row - 1)); // XMIT 1, AUX, the page of the routine
+    words[row - 1] = CALL;
+    ever_wider_returns(&mut words, 256, RET);
+    words[293] = JMP | 320; // the last loss comes behind the words that may return
+    let last = row - 64;
+    for page in (320..last).step_by(32) {
+        words[page..page + 28].fill(0x973d); // XEC left bit 7, 1 bit, from place 29 on
+        words[page + 28..page + 32].copy_from_slice(&[jump(page + 32), NOP, RET, NOP]);
+    }
+    let branch = NZT | ((last + 3) % 256) as u16;
+    words[last..last + 5].copy_from_slice(&[READ | 1, branch, RET, 0xc100, jump(row - 1)]);
     words
 }
 
@@ -236,7 +243,7 @@ pub fn mixed(random: &mut Random, n: usize, weights: [usize; 9]) -> Vec<u16> {
             0 => CALL | low,
             1 => RET | low,
             2 => 0x8000 | register(random) | low,
-            3 => 0x9000 | (random.below(16) as u16) << 8 | (1 + random.below(5) as u16) << 5 | low % 32,
+            3 => 0x9000 | (random.below(16) as u16) << 8 | (1 + random.below(5) as u16) << 5 | (low % 32),
             4 if random.chance(50) => jump(a.saturating_sub(1 + random.below(4))),
             4 => jump(random.below(n)),
             5 if random.chance(50) => 0xb000 | (random.below(16) as u16) << 8 | low,
@@ -277,7 +284,7 @@ pub fn mixed_pages(random: &mut Random, n: usize) -> Vec<u16> {
     weights[8] += 1;
     let mut words = mixed(random, n, weights);
     for (a, word) in words.iter_mut().enumerate().filter(|(a, _)| a % width * 100 < front * width) {
-        *word = xec | a as u16 % 32;
+        *word = xec | (a % 32) as u16;
     }
     let losses = n.min(1 + random.below(20));
     words[..losses].fill_with(|| random.pick(&[READ, READ, READ | 1, NZT_AUX | 9, CALL | 3, XEC_AUX]));
@@ -315,7 +322,8 @@ pub fn images(n: usize) -> Vec<(&'static str, Vec<u16>)> {
         ("N/2 returns, one more reached in a sweep", returns_one_a_sweep(n)),
         ("N/4 call sites, one born in a sweep, and N/4 returns", sites_one_a_sweep(n)),
         ("N/3 call sites, one born in a sweep, and ten ever wider returns", wider_returns_after_each_call(n)),
-        ("XECs that become call sites late", late_sites(n)),
+        ("XECs that become call sites late", late_sites(n, 512)),
+        ("XECs that become call sites late, and N/2 returns", late_sites(n, n / 2)),
         ("XEC pages of CALLs, AUX unknown", xec_pages_of_calls(n)),
         ("XEC pages of RETs", xec_pages_of_returns(n)),
         ("XEC pages of JMPs", xec_pages_of_jumps(n)),

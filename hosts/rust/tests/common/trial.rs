@@ -115,8 +115,9 @@ impl Work {
     }
 }
 
-/// What is done beyond the hub of each depth: a call site that is born leaves the hub as it is and is `fresh` until the cell
-/// after it covers the hub; CALLs whose AUX is unknown have a hub for each depth and low byte.
+/// What is done beyond the hub of each depth: a call site that is born is `fresh` until the cell after it covers all that
+/// returned, and what returned before passes on to the fresh ones alone; CALLs whose AUX is unknown have a hub for each depth
+/// and low byte.
 #[derive(Clone, Copy, Debug, Default)]
 pub struct Rungs {
     pub fresh: bool,
@@ -142,6 +143,8 @@ pub struct Trial {
     born: [bool; DEPTHS],
     /// What the cell after every call site of this depth covers, where none was born since.
     hub: [Facts; DEPTHS],
+    /// What the cell after every call site of this depth covers that is not fresh.
+    wide: [Facts; DEPTHS],
     /// What every cell covers that a CALL of this depth and low byte may go to.
     calls: Vec<Facts>,
     rungs: Rungs,
@@ -165,6 +168,7 @@ impl Trial {
             fresh,
             born: [false; DEPTHS],
             hub: [UNREACHED; DEPTHS],
+            wide: [UNREACHED; DEPTHS],
             calls: vec![UNREACHED; DEPTHS * 256],
             rungs,
             moved: false,
@@ -214,9 +218,7 @@ impl Trial {
             }
             self.returns.put(at, returns && depth > 0);
         }
-        if self.returns.has(at) && self.rungs.fresh {
-            self.go_back_fresh(depth - 1, facts);
-        } else if self.returns.has(at) && (self.born[depth - 1] || !self.hub[depth - 1].covers(facts)) {
+        if self.returns.has(at) && (self.born[depth - 1] || !self.hub[depth - 1].covers(facts)) {
             self.go_back(depth - 1, facts);
             if !self.due.has(at) {
                 let hub = if self.born[depth - 1] { UNREACHED } else { self.hub[depth - 1] };
@@ -274,40 +276,23 @@ impl Trial {
         }
     }
 
-    /// Passes facts on to the address after every call site of a depth, from the highest down: a site that is born
-    /// meanwhile lies above.
+    /// Passes facts on to the address after every call site of a depth, or every fresh one, from the highest down: a site
+    /// that is born meanwhile lies above.
     fn go_back(&mut self, depth: usize, facts: Facts) {
-        for place in (0..self.span / 64).rev() {
-            let mut sites = self.sites.0[depth * self.span / 64 + place];
-            while sites != 0 {
-                let bit = 63 - sites.leading_zeros() as usize;
-                sites ^= 1 << bit;
-                self.pass(depth, 64 * place + bit + 1, facts);
-            }
-        }
-    }
-
-    /// The same by way of the fresh call sites, where the hub covers the facts.
-    fn go_back_fresh(&mut self, depth: usize, facts: Facts) {
-        let covered = self.hub[depth].covers(facts);
-        if covered && !self.born[depth] {
-            return;
-        }
-        self.hub[depth] = self.hub[depth].joined(facts);
-        self.born[depth] = false;
+        let fresh_alone = self.rungs.fresh && self.wide[depth].covers(facts);
+        self.wide[depth] = self.wide[depth].joined(facts);
         for place in (0..self.span / 64).rev() {
             let word = depth * self.span / 64 + place;
-            let mut sites = if covered { self.fresh.0[word] } else { self.sites.0[word] };
+            let mut sites = if fresh_alone { self.fresh.0[word] } else { self.sites.0[word] };
             while sites != 0 {
                 let bit = 63 - sites.leading_zeros() as usize;
                 sites ^= 1 << bit;
                 let after = 64 * place + bit + 1;
                 self.pass(depth, after, facts);
-                if after >= self.words.len() || self.facts[depth * self.span + after].covers(self.hub[depth]) {
+                if after >= self.words.len() || self.facts[depth * self.span + after].covers(self.wide[depth]) {
                     self.fresh.put(64 * word + bit, false);
                 }
             }
-            self.born[depth] |= self.fresh.0[word] != 0;
         }
     }
 
