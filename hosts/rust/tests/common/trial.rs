@@ -137,7 +137,7 @@ pub struct Trial {
     returns: Cells,
     /// CALLs, and XECs that may execute one.
     sites: Cells,
-    /// Call sites, the cell after which may not cover the hub.
+    /// Call sites, the cell after which may not cover `wide`.
     fresh: Cells,
     /// Whether a call site of this depth came up since its hub was made.
     born: [bool; DEPTHS],
