@@ -70,11 +70,11 @@ fn grown(random: &mut Random, words: &[u16]) -> Vec<u16> {
     words.iter().copied().chain(words.iter().map(moved)).collect()
 }
 
-/// A round of the climb: from a mixture or a hostile image of 1,024 or 2,048 words to 8,192, keeping each change that does
-/// not make it cheaper. It depends on its number alone.
+/// A round of the climb: from a mixture or a hostile image of 1,024 words and up to 8,192, keeping each change that does not
+/// make it cheaper. It depends on its number alone.
 fn climbed(round: u64) -> (String, Vec<u16>, Work) {
     let (mut random, rungs) = (Random(round), rungs());
-    let small = random.pick(&[1_024, 1_024, 2_048]);
+    let small = random.pick(&[1_024, 1_024, 2_048, 8_192]);
     let mut starts = images(small);
     let (name, mut words) = match random.below(3) {
         0 => ("a mixture", mixture(&mut random, small)),
@@ -84,7 +84,7 @@ fn climbed(round: u64) -> (String, Vec<u16>, Work) {
     loop {
         let mut best = Trial::of(&words, rungs).work;
         let (mut spent, mut steps) = (best.cost(), 0);
-        while spent < (1 << 41) / words.len() {
+        while spent < (1 << 41) / words.len() || steps < 10 {
             let other = changed(&mut random, &words);
             let work = Trial::of(&other, rungs).work;
             spent += work.cost() + work.sweeps * words.len() / 8 + 20 * words.len();
