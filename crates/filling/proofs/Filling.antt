@@ -1,19 +1,18 @@
 -- Sweeps until nothing changes: the table on its way to the least one, and their count.
-use mathlib.Core.Path.{_≡_, sym, _∙_, ap, subst⁻¹}
+use mathlib.Core.Path.{_≡_, sym, _∙_, subst⁻¹}
 use mathlib.Core.Bool.{Bool, true, false}
 use mathlib.Core.List.{List}
 use Prim.Native.Nat.{ℕ, _+_, _*_, _≤_, _<_}
 use native.Mathlib.Omega.{arith}
 use native.Mathlib.Nat.{le-trans}
-use lib.ListN.{length, getD, replicate}
+use lib.ListN.{getD}
 use Rattle.machine.specs.Step.{wordCount}
 use Rattle.flow.specs.Flow.{sweep, sweepChanges, Filling, sumWeights}
 use Rattle.flow.proofs.Filling.{filling-begins, filling-sweep, filling-falls, filling-ends, filling-bound}
-use Rattle.facts.specs.Record.{recordSize, depths, resetCell, putCell, FineCell, Layout}
-use Rattle.transfer.specs.Passes.{tableSpace, tableLength, startTable, sweepBound, leastTable, sweepsOf}
+use Rattle.facts.specs.Record.{depths, Layout}
+use Rattle.transfer.specs.Passes.{tableSpace, startTable, sweepBound, leastTable, sweepsOf}
 use Rattle.transfer.proofs.TableLaws.{table-laws, start-begins, start-weight}
 use Rattle.transfer.proofs.LeastTable.{count-bound, filled-is-least}
-use Rattle.passing.specs.Passing.{Laid}
 
 -- after `count` sweeps, each of which changed the table
 abbrev pub Way : List ℕ → ℕ → List ℕ → Type 0

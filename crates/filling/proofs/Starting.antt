@@ -2,10 +2,10 @@
 use mathlib.Core.Path.{_≡_, refl, sym, _∙_, ap, ap₂, subst, subst⁻¹}
 use mathlib.Core.Bool.{Bool, true, false, _&&_, false≢true}
 use mathlib.Core.List.{List, [], _∷_}
-use Prim.Native.Nat.{ℕ, _+_, _-_, _*_, _/_, _%_, _≤_, _<_}
+use Prim.Native.Nat.{ℕ, _-_, _*_, _/_, _≤_, _<_}
 use native.Mathlib.Omega.{arith}
 use lib.Arith.{digits-lt}
-use lib.ListN.{length, getD, replicate, length-replicate}
+use lib.ListN.{getD, replicate, length-replicate}
 use borrow.Author.Tests.{lt-ltb}
 use Rattle.choice.specs.Choice.{pick}
 use Rattle.bitset.proofs.Sets.{has-zeros}
@@ -17,7 +17,7 @@ use Rattle.flow.proofs.Rest.{joinAll-one, allCovered-nil}
 use Rattle.flow.proofs.Grows.{joinAll-grows}
 use Rattle.facts.specs.declared.Cell.{Cell}
 use Rattle.facts.specs.Facts.{resetFacts}
-use Rattle.facts.specs.Record.{recordSize, depths, cellOf, unreached, resetCell, cellAt, putCell, joinCell, FineCell, Layout}
+use Rattle.facts.specs.Record.{recordSize, depths, unreached, resetCell, cellAt, putCell, joinCell, FineCell}
 use Rattle.transfer.specs.Passes.{pointAt, toward, isCall, some, wordsAt, isCallSite, returnPasses, tableSpace, tableLength, startTable}
 use Rattle.transfer.proofs.TableLaws.{table-laws, zeros-cell, zeros-layout, reset-fine}
 use Rattle.marks.specs.Marks.{markWords, returnsAt, ownPasses, Noted, Agenda}

@@ -1,11 +1,11 @@
 -- A sweep may leave out the cells that are not due: the sets of such cells are kept up as the table widens.
-use mathlib.Core.Path.{_≡_, refl, sym, _∙_, ap, subst, subst⁻¹}
+use mathlib.Core.Path.{_≡_, sym, _∙_, ap, subst, subst⁻¹}
 use mathlib.Core.Bool.{Bool, true, false, not, _||_, or-false, and-eq-true-iff}
 use mathlib.Core.List.{List, _++_}
 use Prim.Native.Nat.{ℕ, zero, suc, _+_, _-_, _≤_, _<_}
 use native.Mathlib.Decide.{ℕ-discrete}
 use native.Mathlib.Omega.{arith}
-use Rattle.flow.specs.Flow.{Pass, Space, joinAll, changesAll, turn, turnChanges, allCovered, Below}
+use Rattle.flow.specs.Flow.{Pass, Space, joinAll, changesAll, turn, allCovered, Below}
 use Rattle.flow.specs.Due.{Parts, Taken, Split, Settled, Moved}
 use Rattle.flow.proofs.Each.{Each, none, also, each-left, each-right}
 use Rattle.flow.proofs.Lawful.{Lawful, Fits}

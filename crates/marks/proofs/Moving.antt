@@ -1,6 +1,6 @@
 -- Tables and their marks made others, one after another; and a record that changed, noted.
 use mathlib.Core.Path.{_≡_, refl, sym, _∙_, ap, subst}
-use mathlib.Core.Bool.{Bool, true, false, _||_, or-true, true≢false}
+use mathlib.Core.Bool.{Bool, true, false, _||_, true≢false}
 use mathlib.Core.List.{List}
 use mathlib.Core.Logic.{_⊎_, inl, inr}
 use Prim.Native.Nat.{ℕ, _*_, _/_, _%_, _≤_, _<_}
@@ -12,7 +12,7 @@ use Rattle.facts.specs.Record.{depths, cellAt}
 use Rattle.transfer.specs.Passes.{pointAt, isCallSite}
 use Rattle.transfer.proofs.Returns.{same-site}
 use Rattle.callers.proofs.Points.{point-depth, point-address}
-use Rattle.marks.specs.Marks.{setSize, isDue, isChanged, isSite, isBorn, SameSites, Woken, Sited, Moves, Noted, Marked}
+use Rattle.marks.specs.Marks.{setSize, isDue, isChanged, isSite, SameSites, Woken, Sited, Moves, Noted, Marked}
 
 -- a mark that is not clear is set
 pub set-mark : (b : Bool) → (b ≡ false → ⊥) → b ≡ true

@@ -1,8 +1,8 @@
 -- Words that direct PC: what the code has passed on is what they pass on.
 use mathlib.Core.Path.{_≡_, sym, _∙_, ap, subst}
 use mathlib.Core.Bool.{Bool, true, false, _||_}
-use mathlib.Core.List.{List, [], _++_}
-use Prim.Native.Nat.{ℕ, _+_, _*_, _<_}
+use mathlib.Core.List.{List, [], _∷_, _++_}
+use Prim.Native.Nat.{ℕ, _+_, _*_, _≤_, _<_}
 use native.Mathlib.Omega.{arith}
 use lib.Dec.{eqb, ltb}
 use lib.ListN.{getD}
@@ -16,11 +16,12 @@ use Rattle.forms.specs.Forms.{shapeIs}
 use Rattle.flow.specs.Flow.{Pass}
 use Rattle.facts.specs.declared.Cell.{Cell}
 use Rattle.facts.specs.Facts.{unknown, sourceFact, resultFact, withCarryFact, putFact, Span, spanOf, mayBeZero, mayBeOther}
-use Rattle.transfer.specs.Passes.{over, toward, wordPasses}
+use Rattle.facts.specs.Record.{cellOf}
+use Rattle.transfer.specs.Passes.{over, pointAt, toward, wordPasses}
 use Rattle.callers.specs.declared.Values.{Values}
 use Rattle.callers.specs.Callers.{spanIs}
 use Rattle.passing.specs.Passing.{Ready, Passed}
-use Rattle.transfer.proofs.Lists.{over-none, over-more}
+use Rattle.transfer.proofs.Lists.{over-none, over-more, over-still}
 use Rattle.passing.proofs.Passing.{passed-as, passed-none, passed-then, passed-higher}
 
 -- NZT: on, and then away
@@ -58,6 +59,16 @@ module _ (image asked : List ℕ) (depth : ℕ) (facts : List ℕ) (i : ℕ) (lo
   call-next k p q =
       passed-as (over-more (λ v. true) (λ v. toward (wordCount image) (depth + 1) (v * 256 + i) facts) low k)
       (passed-then p (passed-higher (omega arith) q))
+
+  -- pages past the image get nothing
+  pub call-still : (k n : ℕ) {t u m o : List ℕ} {r : Bool} → k ≤ n → wordCount image ≤ (low + k) * 256 + i
+      → Passed image asked depth t m (calledTo (wordCount image) depth facts i low k) u o r
+      → Passed image asked depth t m (calledTo (wordCount image) depth facts i low n) u o r
+  call-still k n l out p =
+      passed-as
+      (over-still (λ v. true) (λ v. toward (wordCount image) (depth + 1) (v * 256 + i) facts) low k n l
+      (λ j a b. ap (λ (x : Bool). pick x (record { target = pointAt (wordCount image) (depth + 1) ((low + j) * 256 + i); cell = cellOf true facts } ∷ []) []) (le-ltb ((low + j) * 256 + i) (wordCount image) (omega (arith, a, out)))))
+      p
 
 -- all of them, at a depth below 8
 pub call-passed : (image asked : List ℕ) (depth pc : ℕ) (facts : List ℕ) (i : ℕ) (v : Values) (k : ℕ) {t u m n : List ℕ} {r : Bool}

@@ -16,7 +16,7 @@ use Rattle.flow.specs.Flow.{Pass, joinAll, changesAll, allCovered}
 use Rattle.flow.proofs.Rest.{joinAll-nil, joinAll-one, joinAll-append, changesAll-nil, changesAll-one, changesAll-append, allCovered-nil, allCovered-one, allCovered-append}
 use Rattle.facts.specs.declared.Cell.{Cell}
 use Rattle.facts.specs.Facts.{unknown, resultFact, withCarryFact, putFact}
-use Rattle.facts.specs.Record.{recordSize, depths, cellOf, cellAt, putCell, joinCell, holdsCell, FineCell, Layout}
+use Rattle.facts.specs.Record.{depths, cellOf, cellAt, putCell, joinCell, holdsCell, FineCell, Layout}
 use Rattle.facts.proofs.Cells.{join-fine}
 use Rattle.facts.proofs.Records.{other-cell, put-layout}
 use Rattle.facts.proofs.Makes.{after-fine}

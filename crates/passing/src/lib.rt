@@ -154,7 +154,7 @@ fn pass_branch(
     on | away
 }
 
-// CALL: to every page that AUX may be.
+// CALL: to every page that AUX may be, up to the last of the image.
 fn pass_call(
     image: &[u8],
     asked: &[u8],
@@ -175,15 +175,11 @@ fn pass_call(
     let mut changed = false;
     let mut n = 0;
     while n < v.count {
-        let r = pass(
-            image,
-            asked,
-            table,
-            marks,
-            depth + 1,
-            (v.low + n) * 256 + i,
-            facts,
-        );
+        let a = (v.low + n) * 256 + i;
+        if image.len() / 2 <= a {
+            return changed;
+        }
+        let r = pass(image, asked, table, marks, depth + 1, a, facts);
         changed = changed | r;
         n += 1;
     }

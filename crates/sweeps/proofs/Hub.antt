@@ -10,8 +10,7 @@ use lib.ListN.{getD}
 use borrow.Author.Tests.{not-true}
 use Rattle.choice.specs.Choice.{pick}
 use Rattle.choice.proofs.Laws.{and-first, and-second}
-use Rattle.machine.specs.Step.{wordCount}
-use Rattle.flow.specs.Flow.{Pass, Below, joinAll, allCovered}
+use Rattle.flow.specs.Flow.{Pass, Below, allCovered}
 use Rattle.flow.proofs.Each.{Each}
 use Rattle.flow.proofs.Lawful.{Fits}
 use Rattle.flow.proofs.Rest.{joinAll-nil, changesAll-nil}
@@ -19,7 +18,7 @@ use Rattle.flow.proofs.Grows.{joinAll-grows, joinAll-covers}
 use Rattle.flow.proofs.Still.{joinAll-still, changesAll-covered}
 use Rattle.facts.specs.declared.Cell.{Cell}
 use Rattle.facts.specs.Facts.{joinFacts}
-use Rattle.facts.specs.Record.{depths, cellOf, cellAt, putCell, joinCell, holdsCell, FineCell, Layout}
+use Rattle.facts.specs.Record.{depths, cellOf, cellAt, putCell, joinCell, holdsCell, FineCell}
 use Rattle.facts.proofs.Cells.{join-fine, reached-above, known-above}
 use Rattle.facts.proofs.Records.{stored-cell, other-cell, put-layout}
 use Rattle.facts.proofs.Makes.{FineFacts}

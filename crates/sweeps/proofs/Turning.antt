@@ -13,18 +13,18 @@ use borrow.Author.Tests.{ltb-true}
 use Rattle.choice.specs.Choice.{pick}
 use Rattle.choice.proofs.Laws.{and-first, and-second}
 use Rattle.machine.specs.Step.{wordCount, shapeAt}
-use Rattle.flow.specs.Flow.{Pass, Below, joinAll, changesAll, allCovered, turn, turnChanges}
+use Rattle.flow.specs.Flow.{Pass, Below, joinAll, changesAll, allCovered, turn}
 use Rattle.flow.proofs.Each.{Each, none, each-left}
 use Rattle.flow.proofs.Lawful.{Fits}
 use Rattle.flow.proofs.Rest.{joinAll-nil, joinAll-append, changesAll-nil, changesAll-append}
 use Rattle.flow.proofs.Grows.{joinAll-grows}
 use Rattle.flow.proofs.Due.{left-out-table, left-out-flag}
 use Rattle.facts.specs.declared.Cell.{Cell}
-use Rattle.facts.specs.Record.{depths, cellAt, FineCell, Layout}
+use Rattle.facts.specs.Record.{depths, cellAt, FineCell}
 use Rattle.transfer.specs.Passes.{pointAt, isReturn, some, wordsAt, returnPasses, tableSpace}
 use Rattle.transfer.proofs.TableLaws.{table-laws, depth-of, address-of}
 use Rattle.transfer.proofs.Returns.{same-site, returns-same}
-use Rattle.marks.specs.Marks.{setSize, isChanged, isReturning, returnsAt, ownPasses, cellParts, Sited, Moves, Returning, Hubs, Agenda}
+use Rattle.marks.specs.Marks.{isChanged, isReturning, returnsAt, ownPasses, cellParts, Sited, Returning, Hubs, Agenda}
 use Rattle.marks.proofs.Moving.{moves-then}
 use Rattle.marks.proofs.Settling.{row-of, cell-split, hubs-noted, agenda-turn}
 use Rattle.passing.specs.Passing.{Laid, Ready, Passed}

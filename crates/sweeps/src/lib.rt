@@ -118,7 +118,8 @@ fn keep_hub(marks: &mut [u64], hubs: &mut [u8], depth: usize, i: usize, c: Cell)
         cells::store(hubs, depth, c, 0);
         return;
     }
-    cells::join_into(hubs, depth, c);
+    let wider = order::joined(cells::load(hubs, depth), c);
+    cells::store(hubs, depth, wider, 0);
 }
 
 // The return of cell i to a depth: nothing where the hub there covers it.

@@ -29,6 +29,17 @@ module _ {A : Type 0} (test : ℕ → Bool) (f : ℕ → List A) where
       let next : n + 1 ≡ suc n = omega arith in
       ap (λ (k : ℕ). over from k test f) next ∙ over-suc from n
 
+  -- from where on nothing is gathered, it may be left
+  pub over-still : (from n k : ℕ) → n ≤ k → ((j : ℕ) → n ≤ j → j < k → pick (test (from + j)) (f (from + j)) [] ≡ []) → over from k test f ≡ over from n test f
+  over-still from n zero l h = let none : n ≡ 0 = omega arith in ap (λ (j : ℕ). over from j test f) (sym none)
+  over-still from n (suc k) l h = go (ℕ-discrete n (suc k)) (λ m. over-still from n k m (λ j a b. h j a (omega arith)))
+    where
+      go : Dec (n ≡ suc k) → (n ≤ k → over from k test f ≡ over from n test f) → over from (suc k) test f ≡ over from n test f
+      go (yes e) later = ap (λ (j : ℕ). over from j test f) (sym e)
+      go (no ne) later =
+          over-suc from k ∙ ap (λ (l : List A). over from k test f ++ l) (h k (omega (arith, ne)) (omega arith))
+          ∙ append-nil (over from k test f) ∙ later (omega (arith, ne))
+
   pub over-none : (from : ℕ) → over from 0 test f ≡ []
   unfolding over
   over-none from = refl
