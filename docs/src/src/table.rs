@@ -15,7 +15,7 @@ pub const WORD_SWEEPS: usize = 108;
 pub type Facts = [Option<u8>; 11];
 
 /// The place of a register among the facts.
-fn slot(number: u16) -> usize {
+pub fn slot(number: u16) -> usize {
     match number {
         0o11 => 7,
         0o10 => 8,

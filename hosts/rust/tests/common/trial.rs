@@ -2,7 +2,7 @@
 //! table covers already all that the cell would pass on, so that the table and the count of sweeps are those of the
 //! definition.
 
-use riptide_reference::table::{Table, DEPTHS};
+use riptide_reference::table::{slot, Table, DEPTHS};
 use riptide_reference::word::{decode, is_bank, width_of, Word, Word::*};
 
 /// The facts of a cell: for fact k, byte k of `known` is 255 and byte k of `values` its value, or both are 0.
@@ -42,17 +42,6 @@ impl Facts {
         let differs = (((apart & low) + low) | apart) >> 7 & LOW_BITS; // the low bit of each byte that differs
         let known = self.known & passed.known & !(differs * 255);
         Facts { known, values: self.values & known }
-    }
-}
-
-/// The place of a register among the facts.
-fn slot(number: u16) -> usize {
-    match number {
-        0o11 => 7,
-        0o10 => 8,
-        0o07 => 9,
-        0o17 => 10,
-        _ => number.into(),
     }
 }
 
