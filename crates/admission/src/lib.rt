@@ -1,4 +1,6 @@
 // Admission: a program is read before it runs. Fills the lent table of facts and answers.
+#![tactic(auto)]
+
 ghost use Rattle.std.specs.Prelude.{◌≡◌, ◌*◌, ◌≤◌, ◌<◌, eqb, length};
 ghost use Rattle.choice.specs.Choice.{pick, first_no};
 ghost use Rattle.map.specs.Map.{map_length};
@@ -12,7 +14,7 @@ ghost use Rattle.admission.specs.Admission.{admit_questions, with_findings, verd
 
 // What admission answers: a refusal at the door; admitted; or the finding of lowest depth, and among those the one of lowest
 // address.
-#[derive(Drop)]
+#[derive(Clone, Copy)]
 pub enum AdmitAnswer {
     Refused {
         number: usize,
@@ -26,7 +28,7 @@ pub enum AdmitAnswer {
 }
 
 // The answer, and beside it the count of sweeps that changed the table.
-#[derive(Drop)]
+#[derive(Clone, Copy)]
 pub struct Answered {
     pub answer: AdmitAnswer,
     pub sweeps: usize,
@@ -51,7 +53,7 @@ fn mark_cell(image: &[u8], map: &[u8], table: &mut [u8], depth: usize, pc: usize
 }
 
 // A finding and its cell; the number is 0 where there is none.
-#[derive(Drop)]
+#[derive(Clone, Copy)]
 struct Named {
     number: usize,
     depth: usize,

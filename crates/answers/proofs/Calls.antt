@@ -7,7 +7,7 @@ use native.Mathlib.Nat.{mod-eq_of_lt}
 use native.Mathlib.Omega.{arith}
 use lib.ListN.{length}
 use Rattle.state.specs.State.{state_length, reset_bytes}
-use Rattle.emulator.specs.Run.{pair_count}
+use Rattle.emulator.specs.Run.{pair_count, run_result}
 use Rattle.admission.specs.Admission.{admit_result}
 use Rattle.admission.proofs.OneAnswer.{found_lowest}
 use Rattle.checking.specs.declared.CheckAnswer.{CheckAnswer}
@@ -41,8 +41,9 @@ module _ {image map table : List ℕ} where
 
   calls : {state : List ℕ} {jobs : List Job} → Countable jobs → Flawless image map table state jobs → Calls image map state jobs
   calls no_job finished = no_more
-  calls (few_pairs few rest) (executes e more) = gave_pairs (gives_pairs few e) (calls rest more)
-  calls (few_pairs few rest) (turned_away t more) =
+  calls {state = state} (few_pairs {job = job} {jobs = jobs} few rest) (executes e more) =
+      gave_pairs (gives_pairs few e) (calls {state = (run_result image map state job.recording job.trace).state} rest more)
+  calls {state = state} (few_pairs {job = job} {jobs = jobs} few rest) (turned_away t more) =
       gave_refusal t.fault (ap run_number t.answer) t.state t.trace (calls rest more)
 
 -- every list of runs that is flawless from reset, from what riptide_reset leaves

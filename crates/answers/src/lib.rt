@@ -1,4 +1,6 @@
 // Each answer as one number, for C and Rust; those of words are in `numbers`.
+#![tactic(auto)]
+
 ghost use Rattle.std.specs.Prelude.{◌≡◌, ◌<◌, ◌≤◌};
 ghost use Rattle.answers.specs.Numbers.{sets_number, count_number, found_number, verdict_number, admit_number, check_number, foretell_number, run_number};
 ghost use Rattle.answers.specs.Fits.{CountsFit, CellFits, VerdictFits, CheckFits, ForetoldFits};

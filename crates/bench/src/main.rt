@@ -1,4 +1,6 @@
 // The bench: reads the map and then the image from standard input, and prints one line.
+#![tactic(auto)]
+
 fn main() {
     let mut input = io::large_buffer();
     let n = io::read_full(0, &mut input);

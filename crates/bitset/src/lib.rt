@@ -1,4 +1,6 @@
 // Sets of numbers in lent words of 64 bits: number i is bit i % 64 of word i / 64.
+#![tactic(auto)]
+
 ghost use Rattle.std.specs.Prelude.{◌≡◌, ◌+◌, ◌-◌, ◌*◌, ◌/◌, ◌≤◌, ◌<◌, length};
 ghost use Rattle.bitset.specs.Bitset.{has, Put, Taken, Next, Last, United};
 ghost use Rattle.bitset.specs.Words.{Lowest, Highest, Clear, Least, Most};

@@ -3,61 +3,48 @@ use mathlib.Core.Path.{◌≡◌, refl}
 use mathlib.Core.Bool.{Bool, true, false, ◌&&◌, not, or-false}
 use mathlib.Core.List.{List, [], ◌∷◌}
 use Prim.Native.Nat.{ℕ}
-use types.Run.{OneOf, miss}
-use denote.Enum.Declared.{tag_of}
 use Rattle.choice.specs.Choice.{pick}
-use Rattle.forms.specs.contracts.Form.{the_type}
 use Rattle.forms.specs.declared.Form.{Form}
 use Rattle.forms.specs.declared.Form.TheVariants.{Act, Jump, Branch, Defer, Call, Return, Invalid}
 use Rattle.machine.specs.Shape.{jump, branch, defer, call, return, Shape, act, go, invalid}
 use Rattle.forms.specs.Forms.{shape_is}
 use Rattle.transfer.specs.Passes.{directing, is_defer, is_call, is_return, some, words_at}
 
--- XEC is case 3, CALL 4, RET 5
-abbrev pub not_defer : List ℕ
-not_defer = 0 ∷ 1 ∷ 2 ∷ 4 ∷ 5 ∷ 6 ∷ []
-
-abbrev not_call : List ℕ
-not_call = 0 ∷ 1 ∷ 2 ∷ 3 ∷ 5 ∷ 6 ∷ []
-
-abbrev not_return : List ℕ
-not_return = 0 ∷ 1 ∷ 2 ∷ 3 ∷ 4 ∷ 6 ∷ []
-
-pub is_no_defer : (f : Form) → OneOf not_defer (tag_of the_type f) → false ≡ is_defer (shape_is f)
+pub is_no_defer : (f : Form) → ((s l page i : ℕ) → f ≡ Defer s l page i → ⊥) → false ≡ is_defer (shape_is f)
 is_no_defer (Act a) o = refl
 is_no_defer (Jump a) o = refl
 is_no_defer (Branch s l page i) o = refl
-is_no_defer (Defer s l page i) o = absurd (miss not_defer 3 tt o)
+is_no_defer (Defer s l page i) o = absurd (o s l page i refl)
 is_no_defer (Call i) o = refl
 is_no_defer Return o = refl
 is_no_defer Invalid o = refl
 
-pub is_no_call : (f : Form) → OneOf not_call (tag_of the_type f) → false ≡ is_call (shape_is f)
+pub is_no_call : (f : Form) → ((i : ℕ) → f ≡ Call i → ⊥) → false ≡ is_call (shape_is f)
 is_no_call (Act a) o = refl
 is_no_call (Jump a) o = refl
 is_no_call (Branch s l page i) o = refl
 is_no_call (Defer s l page i) o = refl
-is_no_call (Call i) o = absurd (miss not_call 4 tt o)
+is_no_call (Call i) o = absurd (o i refl)
 is_no_call Return o = refl
 is_no_call Invalid o = refl
 
-pub is_no_return : (f : Form) → OneOf not_return (tag_of the_type f) → false ≡ is_return (shape_is f)
+pub is_no_return : (f : Form) → (f ≡ Return → ⊥) → false ≡ is_return (shape_is f)
 is_no_return (Act a) o = refl
 is_no_return (Jump a) o = refl
 is_no_return (Branch s l page i) o = refl
 is_no_return (Defer s l page i) o = refl
 is_no_return (Call i) o = refl
-is_no_return Return o = absurd (miss not_return 5 tt o)
+is_no_return Return o = absurd (o refl)
 is_no_return Invalid o = refl
 
 -- a cell whose word is no XEC executes that word alone
-pub itself : (image : List ℕ) (pc : ℕ) (facts : List ℕ) (f : Form) → OneOf not_defer (tag_of the_type f)
+pub itself : (image : List ℕ) (pc : ℕ) (facts : List ℕ) (f : Form) → ((s l page i : ℕ) → f ≡ Defer s l page i → ⊥)
     → words_at image pc facts (shape_is f) ≡ shape_is f ∷ []
 unfolding words_at
 itself image pc facts (Act a) o = refl
 itself image pc facts (Jump a) o = refl
 itself image pc facts (Branch s l page i) o = refl
-itself image pc facts (Defer s l page i) o = absurd (miss not_defer 3 tt o)
+itself image pc facts (Defer s l page i) o = absurd (o s l page i refl)
 itself image pc facts (Call i) o = refl
 itself image pc facts Return o = refl
 itself image pc facts Invalid o = refl

@@ -1,4 +1,6 @@
 // Which values a source may have, which words a cell executes, and which cells are call sites.
+#![tactic(auto)]
+
 ghost use Rattle.std.specs.Prelude.{◌&&◌, ◌≡◌, ◌+◌, ◌%◌, ◌≤◌, ◌<◌};
 ghost use Rattle.choice.specs.Choice.{pick};
 ghost use Rattle.machine.specs.Shape.{source_of, go, defer};
@@ -14,7 +16,7 @@ use control::{LONG_PAGE, SHORT_PAGE};
 use forms::Form;
 
 // The values that a source may have: count of them from low on.
-#[derive(Drop)]
+#[derive(Clone, Copy)]
 pub struct Values {
     pub low: usize,
     pub count: usize,

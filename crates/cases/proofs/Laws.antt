@@ -8,16 +8,13 @@ use native.Mathlib.Omega.{arith}
 use borrow.Author.Tests.{lt-ltb, le-ltb, ne_eqb}
 use lib.ListN.{length, get_or, drop, drop_of_length-le, get_or-eq_default}
 use lib.Seq.{drop-cons, take-length}
-use Rattle.bytes.specs.Bytes.{index_of, slice}
+use lib.Dec.{eqb}
+use Rattle.std.specs.List.{position_or_len}
 use Rattle.cases.specs.Cases.{place_behind, digit_of, with_digits, hex_byte_at}
 
 -- ---- the place behind a mark, from that of the mark
 
-module _ (text : List ℕ) (from mark : ℕ) {at : ℕ} (found : at ≡ from + index_of mark (slice from (length text) text)) where
-  there : at ≡ from + index_of mark (drop from text)
-  unfolding slice
-  there = found ∙ ap (λ (l : List ℕ). from + index_of mark (drop from l)) (take-length text)
-
+module _ (text : List ℕ) (from mark : ℕ) {at : ℕ} (there : at ≡ from + position_or_len (eqb mark) (drop from text)) where
   pub behind_mark : at < length text → at + 1 ≡ place_behind text from mark
   behind_mark below = rw (← there) (sym (min-eq_left (omega arith)))
 

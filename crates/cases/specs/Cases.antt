@@ -1,13 +1,13 @@
 -- The text of test cases: places, numbers, and bytes in their five forms.
 use Rattle.std.specs.Prelude.{◌&&◌, List, [], ◌∷◌, ◌++◌, ℕ, zero, suc, ◌+◌, ◌-◌, ◌*◌, ◌%◌, min, eqb, leb, ltb, length, get_or, drop}
-use Rattle.bytes.specs.Bytes.{index_of}
+use Rattle.std.specs.List.{position_or_len}
 use Rattle.choice.specs.Choice.{pick}
 use Rattle.word.specs.Word.{is_valid}
 use Rattle.digest.specs.Digest.{next_number, number_byte, generated, in_turn}
 
 -- the place behind the next mark at or after a place, or the text's end
 abbrev pub place_behind : List ℕ → ℕ → ℕ → ℕ
-place_behind text from mark = min (from + index_of mark (drop from text) + 1) (length text)
+place_behind text from mark = min (from + position_or_len (eqb mark) (drop from text) + 1) (length text)
 
 -- the value of a decimal or hexadecimal digit, 0-9 or a-f; 16 where there is none
 unfoldable pub digit_of : ℕ → ℕ

@@ -1,5 +1,8 @@
 // The text of expectations: places, numbers, and bytes in their five forms.
-ghost use Rattle.std.specs.Prelude.{◌≡◌, ◌++◌, ◌+◌, ◌-◌, ◌*◌, ◌%◌, ◌≤◌, ◌<◌, min, length, get_or, take, drop};
+#![tactic(auto)]
+
+ghost use Rattle.std.specs.Prelude.{◌≡◌, ◌++◌, ◌+◌, ◌-◌, ◌*◌, ◌%◌, ◌≤◌, ◌<◌, eqb, min, length, get_or, take, drop};
+ghost use Rattle.std.specs.List.{position_or_len};
 ghost use Rattle.io.specs.Counts.{IsPrefixLen};
 ghost use Rattle.digest.specs.Digest.{generated, in_turn};
 ghost use Rattle.cases.specs.Cases.{place_behind, digit_of, decimal_at, hex_byte_at, hex_from, word_bytes, valid_words, form_bytes};
@@ -25,12 +28,28 @@ fn byte_at(s: &[u8], at: usize) -> u8
     0
 }
 
+// The place of the next mark, or the text's end.
+fn find(s: &[u8], from: usize, mark: u8) -> usize
+    requires { from ≤ length s.now }
+    ensures place { result ≡ from + position_or_len (eqb mark) (drop from s.now) }
+    ensures within { result ≤ length s.now }
+{
+    let mut at = from;
+    while at < s.len() {
+        if s[at] == mark {
+            return at;
+        }
+        at += 1;
+    }
+    at
+}
+
 // The place behind the next mark, or the text's end.
 pub fn after(s: &[u8], from: usize, mark: u8) -> usize
     requires { from ≤ length s.now }
     ensures { (from ≤ result) × (result ≤ length s.now) × (from < length s.now → from < result) × (result ≡ place_behind s.now from mark) }
 {
-    let at = bytes::scan::find(s, from, s.len(), mark);
+    let at = find(s, from, mark);
     if at < s.len() {
         return at + 1;
     }

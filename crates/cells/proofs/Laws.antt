@@ -72,12 +72,9 @@ record_eq c finding {vs = vs} fine p q v =
     rw (p, q, w)
 
 -- 16 bytes put in from 16 × i on
-pub part_put : (t : List ℕ) (i : ℕ) (b last : List ℕ) → record_size * i + record_size ≤ length t → length b ≡ record_size
-    → last ≡ take (length b) b ++ drop (length b) (take (record_size * i + record_size - record_size * i) (drop (record_size * i) t))
+pub part_put : (t : List ℕ) (i : ℕ) (b last : List ℕ) → record_size * i + record_size ≤ length t → length b ≡ record_size → last ≡ b
     → put_mid (record_size * i) (record_size * i + record_size - record_size * i) t last ≡ put_record t i b
 unfolding put_record
 part_put t i b last h l e =
     let inside : record_size * i ≤ record_size * i + record_size = omega arith in
-    let m = mid_len (record_size * i) (record_size * i + record_size) t h in
-    let size : record_size * i + record_size - record_size * i ≡ record_size = omega arith in
-    rw (copied b (take (record_size * i + record_size - record_size * i) (drop (record_size * i) t)) last (m ∙ size ∙ sym l) e, Post-is (record_size * i) (record_size * i + record_size) t inside)
+    rw (e, Post-is (record_size * i) (record_size * i + record_size) t inside)

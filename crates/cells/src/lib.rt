@@ -1,4 +1,6 @@
 // Cells of the table of facts, read from and joined into the lent bytes.
+#![tactic(auto)]
+
 ghost use Rattle.std.specs.Prelude.{◌≡◌, not, ◌+◌, ◌*◌, ◌/◌, ◌%◌, ◌^◌, ◌≤◌, ◌<◌, eqb, length};
 ghost use Rattle.choice.specs.Choice.{pick};
 ghost use Rattle.facts.specs.Facts.{fact_count, unknown, is_known};
@@ -141,7 +143,7 @@ pub fn store(table: &mut [u8], i: usize, c: Cell, finding: u8)
     let b = record_of(c, finding);
     let a = RECORD * i;
     let e = a + RECORD;
-    bytes::copy(&b, &mut table[a..e]);
+    table[a..e].copy_from_slice(&b);
 }
 
 // Joins d into cell i of a table. Says whether the cell changed.

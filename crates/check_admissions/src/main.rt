@@ -1,5 +1,7 @@
 // Admits each line of standard input, the inputs of an admission as docs/src/expect/admissions.txt has them, and prints a
 // line with the answer, the count of sweeps and the digest of the table.
+#![tactic(auto)]
+
 ghost use Rattle.std.specs.Prelude.{◌≤◌, length};
 
 use admission::AdmitAnswer;

@@ -1,4 +1,6 @@
 // Makes the bench's line for each line of standard input, the map and the image as docs/src/expect/bench.txt has them.
+#![tactic(auto)]
+
 ghost use Rattle.std.specs.Prelude.{◌≤◌, length};
 
 // A case whose line begins at a place: 'bench', its name, then the fields map, image.

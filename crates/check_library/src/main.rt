@@ -1,8 +1,10 @@
 // Calls every function that the library exports, once for each line of standard input: a kind of call, a name, what is
 // lent. Prints the numbers that come out in hexadecimal, and the digests of the lent bytes afterwards.
+#![tactic(auto)]
+
 ghost use Rattle.std.specs.Prelude.{◌≡◌, ◌<◌, ◌≤◌, length};
 
-#[derive(Drop)]
+#[derive(Clone, Copy)]
 struct Tally {
     valid: usize,
     equal: usize,

@@ -1,5 +1,7 @@
 // Runs each line of standard input, the inputs of a run as docs/src/expect/runs.txt has them, and prints a line with
 // the answer, the state afterwards, and the digests of state and trace.
+#![tactic(auto)]
+
 ghost use Rattle.std.specs.Prelude.{◌≡◌, ◌≤◌, length};
 
 use emulator::RunAnswer;

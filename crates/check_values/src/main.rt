@@ -4,6 +4,8 @@
 // A value is named by a letter: A AUX, 1-6 R1-R6, E R11, V OVF, l and r the bus addresses, L and R the latches, p and P
 // the low and high byte of PC; and in what is printed also c PC, n pending address, a the return address pushed,
 // s the stop number, w the data written.
+#![tactic(auto)]
+
 ghost use Rattle.std.specs.Prelude.{◌≡◌, ◌<◌, length};
 
 use emulator::RunAnswer;

@@ -1,9 +1,11 @@
 // Reads all 65,536 words, writes each again, and prints what docs/src/expect/words.txt has for the same reading:
 // the count of valid words and the digest of eight bytes for each word; then how many words came back equal.
+#![tactic(auto)]
+
 use word::{Encoding, Word};
 
 // A case's number and its fields in the order of the word, 0 where there is none.
-#[derive(Drop)]
+#[derive(Clone, Copy)]
 struct Listed {
     kind: u8,
     a: usize,
@@ -12,14 +14,14 @@ struct Listed {
 }
 
 // What writing gave: 1 and the word's two bytes, or 0, 0, 22.
-#[derive(Drop)]
+#[derive(Clone, Copy)]
 struct Written {
     good: u8,
     high: u8,
     low: u8,
 }
 
-#[derive(Drop)]
+#[derive(Clone, Copy)]
 struct Tally {
     valid: usize,
     equal: usize,

@@ -1,4 +1,6 @@
 // A table that came along with an image and a map, checked in one pass over its cells. Nothing is written.
+#![tactic(auto)]
+
 ghost use Rattle.std.specs.Prelude.{◌≡◌, true, ◌+◌, ◌*◌, ◌≤◌, ◌<◌, length, take, drop};
 ghost use Rattle.map.specs.Map.{map_length};
 ghost use Rattle.machine.specs.Step.{word_count};
@@ -14,7 +16,7 @@ ghost use Rattle.checking.specs.declared.CheckAnswer.TheVariants.{Accepted};
 
 use facts::{Cell, RECORD};
 
-#[derive(Drop)]
+#[derive(Clone, Copy)]
 pub enum CheckAnswer {
     Refused {
         number: usize,

@@ -1,1 +1,2 @@
 // Definitions and laws alone: a choice by a test, and the first question that is answered no.
+#![tactic(auto)]

@@ -1,4 +1,6 @@
 // The line of a word on a listing page: its columns put one behind another.
+#![tactic(auto)]
+
 ghost use Rattle.std.specs.Prelude.{◌≡◌, ◌++◌, ◌+◌, ◌*◌, ◌≤◌, ◌<◌, length};
 ghost use Rattle.word.specs.Word.{is_valid};
 ghost use Rattle.text.specs.Text.{space_text, octal};

@@ -1,4 +1,6 @@
 // Words that direct PC: XEC, NZT, CALL, RET, JMP.
+#![tactic(auto)]
+
 ghost use Rattle.std.specs.Prelude.{◌≡◌, List, [], ◌∷◌, ℕ, ◌<◌, ◌≤◌};
 ghost use Rattle.machine.specs.Shape.{source_of, register, constant, go, branch, defer, call, return};
 ghost use Rattle.machine.specs.Step.{in_page, word_step};

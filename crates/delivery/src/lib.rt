@@ -1,4 +1,6 @@
 // Words that deliver a source to a target: MOVE, ADD, AND, XOR, XMIT.
+#![tactic(auto)]
+
 ghost use Rattle.std.specs.Prelude.{◌≡◌, List, [], ◌∷◌, ℕ, ◌<◌, length};
 ghost use Rattle.map.specs.Map.{map_length};
 ghost use Rattle.machine.specs.Shape.{target_of, slot, latch, bank_of, position_of};

@@ -1,5 +1,7 @@
 // What test programs share with the reference in another language: the FNV-1a digest of 64 bits, and the bytes of a
 // linear congruential generator.
+#![tactic(auto)]
+
 ghost use Rattle.std.specs.Prelude.{◌≡◌, ◌*◌, ◌%◌, ◌<◌, length};
 ghost use Rattle.digest.specs.Digest.{empty_digest, digest_byte, digest_of, next_number, number_byte, generated, in_turn};
 

@@ -1,4 +1,6 @@
 // What a word makes of facts: the fact of its source, of its result and of OVF, and the facts after it.
+#![tactic(auto)]
+
 ghost use Rattle.std.specs.Prelude.{◌≡◌, ℕ, ◌<◌, ◌≤◌, get_or};
 ghost use Rattle.choice.specs.Choice.{pick};
 ghost use Rattle.field.specs.Field.{rotate_right, low_bits};

@@ -1,4 +1,6 @@
 // The steps of a run: one for each pair of a recording, with its trace record.
+#![tactic(auto)]
+
 ghost use Rattle.std.specs.Prelude.{◌≡◌, [], ◌∷◌, ◌≤◌, ◌<◌, length};
 ghost use Rattle.machine.specs.Parts.{whole};
 ghost use Rattle.emulator.specs.Run.{ran_over, written_over, image_fits};
@@ -14,14 +16,14 @@ pub const RECORD: usize = 8;
 const HALF: usize = 4;
 
 // What a run answers: a refusal at the door, or the count of trace records and the stop number or 0.
-#[derive(Drop)]
+#[derive(Clone, Copy)]
 pub enum RunAnswer {
     Refused { number: usize },
     Ended { count: usize, stop: usize },
 }
 
 // What the steps of a run leave: the sequencer, how many steps there were, the stop number or 0.
-#[derive(Drop)]
+#[derive(Clone, Copy)]
 pub struct Last {
     pub q: Sequencer,
     pub count: usize,

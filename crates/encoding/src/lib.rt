@@ -1,4 +1,6 @@
 // The instruction word encoded: 16 bits of a case with its fields.
+#![tactic(auto)]
+
 ghost use Rattle.std.specs.Prelude.{true, ◌≡◌, ◌<◌};
 ghost use Rattle.word.specs.declared.Encoding.{Encoding};
 ghost use Rattle.word.specs.Word.{low_of, word_of, act_bits, register_bits, bank_bits, jmp_bits, encoded, writing, written_of};

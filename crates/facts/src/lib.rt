@@ -1,4 +1,5 @@
 // A cell of the table of facts: whether its point is reached, and what is known of the eleven values there.
+#![tactic(auto)]
 
 // A fact is a value below 256, or this where nothing is known.
 pub const UNKNOWN: u16 = 256;
@@ -10,7 +11,7 @@ pub const DEPTHS: usize = 9;
 
 pub const WORD_RECORDS: usize = DEPTHS * RECORD;
 
-#[derive(Drop)]
+#[derive(Clone, Copy)]
 pub struct Cell {
     pub reached: bool,
     pub facts: [u16; 11],

@@ -1,5 +1,7 @@
 // Bytes and their fields: rotation, the field at a bit position, the merge of a field into a latch, and
 // the three operations with AUX. Bit 0 is the most significant bit; a length of 0 means 8 bits.
+#![tactic(auto)]
+
 ghost use Rattle.std.specs.Prelude.{◌≡◌, ◌-◌, ◌^◌, ◌<◌};
 ghost use Rattle.field.specs.Field.{rotate_right, width_of, low_bits, field_of, merge_into, sum_of, carry_of, and_of, xor_of};
 

@@ -1,4 +1,6 @@
 // The lent table filled: sweeps from the reset cell until one changes nothing.
+#![tactic(auto)]
+
 ghost use Rattle.std.specs.Prelude.{◌≡◌, ◌*◌, ◌≤◌, ◌<◌, length, replicate};
 ghost use Rattle.machine.specs.Step.{word_count};
 ghost use Rattle.facts.specs.Record.{record_size, depths};

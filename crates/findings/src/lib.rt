@@ -1,4 +1,6 @@
 // The cell questions: the finding of a cell, the number of the first question that gets a no, or 0.
+#![tactic(auto)]
+
 ghost use Rattle.std.specs.Prelude.{◌≡◌, List, [], ◌∷◌, ◌++◌, ℕ, ◌+◌, ◌-◌, ◌≤◌, ◌<◌, ltb, length, get_or};
 ghost use Rattle.choice.specs.Choice.{ask};
 ghost use Rattle.map.specs.Map.{map_length};

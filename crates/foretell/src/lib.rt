@@ -1,4 +1,6 @@
 // Foretelling: what an admission of an image takes, without doing the work.
+#![tactic(auto)]
+
 ghost use Rattle.std.specs.Prelude.{◌≡◌};
 ghost use Rattle.foretell.specs.Foretell.{foretold, foretold_numbers, foretelling};
 
@@ -6,7 +8,7 @@ ghost use Rattle.foretell.specs.Foretell.{foretold, foretold_numbers, foretellin
 const WORD_SWEEPS: usize = 108;
 
 // What foretelling answers: the table's length and the most sweeps that admission can count; or a refusal at the door.
-#[derive(Drop)]
+#[derive(Clone, Copy)]
 pub enum ForetellAnswer {
     Refused,
     Foretold { length: usize, bound: usize },

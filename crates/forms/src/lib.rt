@@ -1,5 +1,7 @@
 // A decoded word in the form that everything above decoding goes over: one case for each shape, told in numbers. This is
 // the only place that turns kinds of words into something else than their fields.
+#![tactic(auto)]
+
 ghost use Rattle.std.specs.Prelude.{◌≡◌};
 ghost use Rattle.word.specs.Word.{InRange};
 ghost use Rattle.machine.specs.Shape.{shape_of};
@@ -11,7 +13,7 @@ use machine::act::Delivery;
 use word::Word;
 
 // s is the number of the source, a register or a bank, l the length of a bank's field, page the page's width.
-#[derive(Drop)]
+#[derive(Clone, Copy)]
 pub enum Form {
     Act(Delivery),
     Jump {

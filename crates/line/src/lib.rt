@@ -1,4 +1,6 @@
 // The line that the bench program prints, made from its input.
+#![tactic(auto)]
+
 ghost use Rattle.std.specs.Prelude.{◌≡◌, ◌≤◌, ◌<◌, length, take, drop};
 ghost use Rattle.map.specs.Map.{map_length};
 ghost use Rattle.choice.specs.Choice.{asked};

@@ -1,4 +1,6 @@
 // Reads an image from standard input, and prints its listing page or `refused 11`.
+#![tactic(auto)]
+
 fn main() {
     let mut input = io::large_buffer();
     let n = io::read_full(0, &mut input);

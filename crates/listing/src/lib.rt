@@ -1,4 +1,6 @@
 // The listing page: one line of 32 bytes for each word of an image.
+#![tactic(auto)]
+
 ghost use Rattle.std.specs.Prelude.{◌≡◌, ◌*◌, ◌≤◌, length, take, drop};
 ghost use Rattle.machine.specs.Step.{word_count};
 ghost use Rattle.columns.specs.Line.{line_length};
@@ -8,7 +10,7 @@ ghost use Rattle.listing.specs.Listing.{page_of, page_yielded, list_result, prin
 const LINE: usize = 32;
 
 // What listing answers: done, or a refusal at the door.
-#[derive(Drop)]
+#[derive(Clone, Copy)]
 pub enum ListAnswer {
     Listed,
     Refused { number: usize },

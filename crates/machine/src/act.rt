@@ -96,7 +96,7 @@ pub fn places(rl: usize, d: usize) -> usize
 }
 
 // A word that delivers a source to a target: where kind is 0 the source s, where it is 1 the constant i.
-#[derive(Drop)]
+#[derive(Clone, Copy)]
 pub struct Delivery {
     pub kind: usize,
     pub op: usize,

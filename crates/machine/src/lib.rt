@@ -1,5 +1,7 @@
 // The machine: what a word leaves, and what it reads. The values, the latches and the call stack are lent, the
 // rest of the state is a struct of numbers, so that a loop over steps keeps all of it in place.
+#![tactic(auto)]
+
 pub mod act;
 
 ghost use Rattle.std.specs.Prelude.{◌≡◌, ℕ, ◌<◌, List};
@@ -7,7 +9,7 @@ ghost use Rattle.machine.specs.Step.{came_to_stop};
 ghost use Rattle.machine.specs.Parts.{whole, outcome};
 
 // PC, pending flag and address, depth.
-#[derive(Drop)]
+#[derive(Clone, Copy)]
 pub struct Sequencer {
     pub pc: usize,
     pub flag: usize,
@@ -16,7 +18,7 @@ pub struct Sequencer {
 }
 
 // What a word leaves: the sequencer, and what the trace tells of it (kind, address, data written, stop number).
-#[derive(Drop)]
+#[derive(Clone, Copy)]
 pub struct Effect {
     pub pc: usize,
     pub flag: usize,

@@ -1,4 +1,6 @@
 // The access map: 128 bytes, four sets of bus addresses. Bank 0 is left, 1 is right.
+#![tactic(auto)]
+
 ghost use Rattle.std.specs.Prelude.{◌≡◌, ◌+◌, ◌≤◌, ◌<◌, length};
 ghost use Rattle.map.specs.Map.{map_length, in_set, readable, writable, listed, count_of, counted, counts_of, counting};
 ghost use Rattle.map.specs.Ones.{number_from, ones_from};
@@ -7,7 +9,7 @@ ghost use Rattle.map.specs.Ones.{number_from, ones_from};
 pub const LENGTH: usize = 128;
 
 // The counts of the four sets, or the refusal 12.
-#[derive(Drop)]
+#[derive(Clone, Copy)]
 pub enum Counts {
     Sets {
         left_readable: usize,

@@ -1,4 +1,6 @@
 // The marks of a table that is being filled: which cells are due, and what makes them so.
+#![tactic(auto)]
+
 ghost use Rattle.std.specs.Prelude.{◌≡◌, ◌*◌, ◌≤◌, ◌<◌, length};
 ghost use Rattle.machine.specs.Step.{word_count};
 ghost use Rattle.callers.specs.Callers.{Held};

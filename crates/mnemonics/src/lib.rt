@@ -1,4 +1,6 @@
 // What a word shows in a listing: its mnemonic, and the layout of its operands.
+#![tactic(auto)]
+
 ghost use Rattle.std.specs.Prelude.{◌≡◌, [], ◌≤◌, ◌<◌, get_or};
 ghost use Rattle.word.specs.Word.{is_valid};
 ghost use Rattle.text.specs.Text.{filled};
@@ -6,7 +8,7 @@ ghost use Rattle.mnemonics.specs.Layout.{opcode_names, is_nzt_of, mnemonic_of, l
 ghost use Rattle.mnemonics.specs.Parts.{operands_in};
 
 // A layout: each operand's value, and the octal digits that it takes.
-#[derive(Drop)]
+#[derive(Clone, Copy)]
 pub struct Layout {
     pub count: usize,
     pub values: [usize; 3],

@@ -1,4 +1,6 @@
 // A word as one number, for C and Rust: its opcode and fields, each at its place, and the word of an opcode and fields.
+#![tactic(auto)]
+
 ghost use Rattle.std.specs.Prelude.{◌≡◌, ◌<◌};
 ghost use Rattle.word.specs.Word.{InRange};
 ghost use Rattle.numbers.specs.Words.{fields_number, read_number, xec_from, nzt_from, xmit_from, word_from};

@@ -1,4 +1,6 @@
 // The order and the join of cells, by value.
+#![tactic(auto)]
+
 ghost use Rattle.std.specs.Prelude.{◌≡◌};
 ghost use Rattle.facts.specs.Facts.{knows_no_more, all_know_no_more, join_fact, join_facts};
 ghost use Rattle.facts.specs.Record.{holds_cell, join_cell};

@@ -1,6 +1,8 @@
 // Facts handed on to a cell, and what one word passes on, for two uses: they are joined into a table that is being filled,
 // or a table that came along is asked whether it holds them. The two tables are lent side by side, and the walk goes over
 // the first unless that is empty.
+#![tactic(auto)]
+
 ghost use Rattle.std.specs.Prelude.{◌≡◌, true, false, not, [], ◌<◌};
 ghost use Rattle.choice.specs.Choice.{pick};
 ghost use Rattle.machine.specs.Shape.{source_of, register, go, branch, call};

@@ -1,4 +1,6 @@
 // The processor: the word at an address and its form, and one step over a fetched word.
+#![tactic(auto)]
+
 ghost use Rattle.std.specs.Prelude.{◌≡◌, ◌<◌, [], ◌∷◌};
 ghost use Rattle.word.specs.Word.{InRange, decoded};
 ghost use Rattle.machine.specs.Step.{word_count, word_at, shape_at, word_step, step_from, stepped};
@@ -56,7 +58,7 @@ pub fn form_at(image: &[u8], at: usize) -> Form
 }
 
 // A decoded word that is valid, or none.
-#[derive(Drop)]
+#[derive(Clone, Copy)]
 pub enum Fetched {
     Valid(Word),
     Invalid,

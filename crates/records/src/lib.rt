@@ -1,4 +1,6 @@
 // Has a record of a table that came along the layout?
+#![tactic(auto)]
+
 ghost use Rattle.std.specs.Prelude.{◌≡◌, ◌||◌, ◌/◌, ◌%◌, ◌^◌, ◌<◌, eqb, length};
 ghost use Rattle.facts.specs.Facts.{fact_count};
 ghost use Rattle.facts.specs.Record.{record_size};

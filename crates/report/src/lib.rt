@@ -1,4 +1,6 @@
 // What admission answers for an image, in the words of the bench's line.
+#![tactic(auto)]
+
 ghost use Rattle.std.specs.Prelude.{◌≡◌, List, true, ℕ, ◌+◌, ◌≤◌, ◌<◌, length};
 ghost use Rattle.map.specs.Map.{map_length};
 ghost use Rattle.machine.specs.Step.{word_count};

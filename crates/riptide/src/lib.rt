@@ -1,4 +1,6 @@
-// The calls for C and Rust: numbers and byte slices only, one number for each answer.
+// The calls for C and Rust: numbers and byte slices only, one number for each answer. (`riptide_c` exports them.)
+#![tactic(auto)]
+
 ghost use Rattle.std.specs.Prelude.{◌≡◌};
 ghost use Rattle.word.specs.Word.{decoded, encoded};
 ghost use Rattle.map.specs.Map.{counted};
@@ -15,16 +17,14 @@ use state::ResetAnswer;
 use word::Encoding;
 
 // opcode × 256 and the word's fields in the order of their bits, at bits 16, 32 and 48; or 22.
-#[unsafe(no_mangle)]
-pub extern "C" fn riptide_read_word(word: u16) -> u64
+pub fn riptide_read_word(word: u16) -> u64
     ensures { result ≡ read_number (decoded word) }
 {
     numbers::read_number(word::decode(word))
 }
 
 // word × 256; or 22 where a field is wider than its place or outside the lists.
-#[unsafe(no_mangle)]
-pub extern "C" fn riptide_write_word(op: usize, a: usize, b: usize, c: usize) -> u64
+pub fn riptide_write_word(op: usize, a: usize, b: usize, c: usize) -> u64
     ensures { result ≡ write_number (encoded (word_from op a b c)) }
 {
     match encoding::encode(numbers::word_from(op, a, b, c)) {
@@ -38,16 +38,14 @@ pub extern "C" fn riptide_write_word(op: usize, a: usize, b: usize, c: usize) ->
 }
 
 // The counts of the four sets at bits 8, 20, 32 and 44; or 12.
-#[unsafe(no_mangle)]
-pub extern "C" fn riptide_count_sets(map: &[u8]) -> u64
+pub fn riptide_count_sets(map: &[u8]) -> u64
     ensures { result ≡ count_number (counted map.now) }
 {
     answers::count_number(map::count(map))
 }
 
 // 0 and 36 zero bytes; or 14, and the bytes as they were.
-#[unsafe(no_mangle)]
-pub extern "C" fn riptide_reset(state: &mut [u8]) -> u64
+pub fn riptide_reset(state: &mut [u8]) -> u64
     ensures { (result ≡ reset_number_of state.old) × (state.new ≡ reset_state state.old) }
 {
     match state::reset(state) {
@@ -62,8 +60,7 @@ pub extern "C" fn riptide_reset(state: &mut [u8]) -> u64
 
 // number + depth × 256 + address × 65,536: 0 for admitted, the refusal 11, 12 or 13, or the finding; and the count of sweeps
 // × 2^32.
-#[unsafe(no_mangle)]
-pub extern "C" fn riptide_admit(image: &[u8], map: &[u8], table: &mut [u8]) -> u64
+pub fn riptide_admit(image: &[u8], map: &[u8], table: &mut [u8]) -> u64
     ensures { (result ≡ admit_gives image.now map.now table.old) × (table.new ≡ (admit_result image.now map.now table.old).table) }
 {
     answers::admit_number(admission::admit(image, map, table))
@@ -71,24 +68,21 @@ pub extern "C" fn riptide_admit(image: &[u8], map: &[u8], table: &mut [u8]) -> u
 
 // number + depth × 256 + address × 65,536: 0 for accepted, the refusal 11, 12 or 13, or what the first cell that fails fails
 // with.
-#[unsafe(no_mangle)]
-pub extern "C" fn riptide_check(image: &[u8], map: &[u8], table: &[u8]) -> u64
+pub fn riptide_check(image: &[u8], map: &[u8], table: &[u8]) -> u64
     ensures { result ≡ check_gives image.now map.now table.now }
 {
     answers::check_number(checking::check(image, map, table))
 }
 
 // The length of the image's table × 256 and the bound of its sweeps × 2^32; or 11.
-#[unsafe(no_mangle)]
-pub extern "C" fn riptide_foretell(image: &[u8]) -> u64
+pub fn riptide_foretell(image: &[u8]) -> u64
     ensures { result ≡ foretell_gives image.now }
 {
     answers::foretell_number(foretell::foretell(image))
 }
 
 // count × 256 + number: the stop number or 0, or with count 0 the refusal 11, 12, 14, 15 or 16.
-#[unsafe(no_mangle)]
-pub extern "C" fn riptide_run(
+pub fn riptide_run(
     image: &[u8],
     map: &[u8],
     state: &mut [u8],
@@ -101,8 +95,7 @@ pub extern "C" fn riptide_run(
 }
 
 // 0 and the page; or the refusal 11 or 41, and the bytes as they were.
-#[unsafe(no_mangle)]
-pub extern "C" fn riptide_list(image: &[u8], page: &mut [u8]) -> u64
+pub fn riptide_list(image: &[u8], page: &mut [u8]) -> u64
     ensures { (result ≡ (list_result image.now page.old).number) × (page.new ≡ (list_result image.now page.old).page) }
 {
     match listing::list(image, page) {

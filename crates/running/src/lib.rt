@@ -1,4 +1,6 @@
 // The run: the questions at the door, the steps, the state stored.
+#![tactic(auto)]
+
 ghost use Rattle.std.specs.Prelude.{◌≡◌, length};
 ghost use Rattle.state.specs.State.{state_length};
 ghost use Rattle.emulator.specs.Run.{ran_over, trace_fits, yielded, ended, run_result};

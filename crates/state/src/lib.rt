@@ -1,4 +1,6 @@
 // The machine's state by value, and its 36 bytes: loaded, tested, reset.
+#![tactic(auto)]
+
 ghost use Rattle.std.specs.Prelude.{◌≡◌, ◌<◌, ◌+◌, ◌*◌, length};
 ghost use Rattle.state.specs.State.{state_length, stack_places, bytes_from, numbers_from, loaded, flag_fits, place_fits, stack_fits, is_stop, well_formed, reset_answer_of, reset_number, reset_number_of, reset_state};
 
@@ -13,7 +15,7 @@ pub const OVERFLOW: usize = 8;
 pub const ADDRESS: usize = 9;
 
 // Values in the order of the eleven facts of a table record: AUX, R1-R6, R11, OVF, left and right bus address.
-#[derive(Drop)]
+#[derive(Clone, Copy)]
 pub struct State {
     pub pc: usize,
     pub flag: usize,
@@ -26,7 +28,7 @@ pub struct State {
 }
 
 // What reset answers: done, or the refusal 14.
-#[derive(Drop)]
+#[derive(Clone, Copy)]
 pub enum ResetAnswer {
     Done,
     Refused,
@@ -145,6 +147,6 @@ pub fn reset(bytes: &mut [u8]) -> ResetAnswer
         return ResetAnswer::Refused;
     }
     let zeros = [0u8; LENGTH];
-    bytes::copy(&zeros, bytes);
+    bytes.copy_from_slice(&zeros);
     ResetAnswer::Done
 }

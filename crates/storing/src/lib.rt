@@ -1,4 +1,6 @@
 // The machine's state stored into its 36 bytes.
+#![tactic(auto)]
+
 ghost use Rattle.std.specs.Prelude.{◌≡◌, length};
 ghost use Rattle.state.specs.State.{state_length, stored};
 
@@ -56,5 +58,5 @@ pub fn store(s: State, bytes: &mut [u8])
     ensures { bytes.new ≡ stored s }
 {
     let b = bytes_of(s);
-    bytes::copy(&b, bytes);
+    bytes.copy_from_slice(&b);
 }

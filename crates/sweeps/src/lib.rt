@@ -1,4 +1,6 @@
 // A sweep over the lent table: what each cell passes on is joined in at its targets. Cells that are not due are left out.
+#![tactic(auto)]
+
 ghost use Rattle.std.specs.Prelude.{◌≡◌, true, not, ◌&&◌, [], ◌-◌, ◌*◌, ◌<◌, length};
 ghost use Rattle.choice.specs.Choice.{pick};
 ghost use Rattle.machine.specs.Step.{word_count};

@@ -41,10 +41,8 @@ module _ (out : List ℕ) (at : ℕ) (text : List ℕ) (room : at + length text 
       ∙ drop-drop (at + length text - at) at out
       ∙ ap (λ (n : ℕ). drop n out) {x = at + (at + length text - at)} {y = at + length text} (omega arith)
 
-  pub put_here : (last : List ℕ) → last ≡ take (length text) text ++ drop (length text) (take (at + length text - at) (drop at out))
-      → Written out at text (put_mid at (at + length text - at) out last) (at + length text)
-  put_here last e =
-      let same : last ≡ text = copied text (take (at + length text - at) (drop at out)) last part_length e in
+  pub put_here : (last : List ℕ) → last ≡ text → Written out at text (put_mid at (at + length text - at) out last) (at + length text)
+  put_here last same =
       record {
         line = ap (λ (l : List ℕ). take (at + length text) (put_mid at (at + length text - at) out l)) same ∙ put_line_lem;
         place = refl;

@@ -1,4 +1,6 @@
 // Texts put into lent bytes, one behind another: bytes, numbers in decimal and in octal, spaces.
+#![tactic(auto)]
+
 ghost use Rattle.std.specs.Prelude.{◌≡◌, ◌++◌, ◌+◌, ◌-◌, ◌/◌, ◌%◌, ◌^◌, ◌≤◌, ◌<◌, length};
 ghost use Rattle.text.specs.Text.{decimal, door_line, octal, spaces};
 ghost use Rattle.text.specs.Parts.{Written};
@@ -9,7 +11,7 @@ pub fn put(out: &mut [u8], at: usize, text: &[u8]) -> usize
     ensures { Written out.old at text.now out.new result }
 {
     let e = at + text.len();
-    bytes::copy(text, &mut out[at..e]);
+    out[at..e].copy_from_slice(text);
     e
 }
 

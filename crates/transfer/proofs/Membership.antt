@@ -30,6 +30,7 @@ module _ {A : Type 0} where
   pub each_at : {P : A → Type 0} {x : A} {xs : List A} → Each P xs → In x xs → P x
   each_at (also p e) first = p
   each_at (also p e) (later i) = each_at e i
+  each_at {P = P} none x4 = elim x4 [ ]
 
   pub each_from : {P : A → Type 0} (xs : List A) → ((x : A) → In x xs → P x) → Each P xs
   each_from [] f = none
@@ -127,6 +128,7 @@ module _ {A : Type 0} where
 
   pub in_one : {x y : A} → In x (y ∷ []) → x ≡ y
   in_one first = refl
+  in_one {y = y} (later x4) = elim x4 [ ]
 
   pub in_append : {P : Type 0} {x : A} (xs ys : List A) → In x (xs ++ ys) → (In x xs → P) → (In x ys → P) → P
   in_append [] ys i p q = q i
@@ -135,6 +137,7 @@ module _ {A : Type 0} where
 
   pub in_pick : {P : Type 0} {x : A} (b : Bool) {xs : List A} → In x (pick b xs []) → (b ≡ true → In x xs → P) → P
   in_pick true i p = p refl i
+  in_pick {P = P} false {xs = xs} i p = elim i [ ]
 
   pub over_in : {P : Type 0} {x : A} (from n : ℕ) (test : ℕ → Bool) (f : ℕ → List A) → In x (over from n test f)
       → ((k : ℕ) → from ≤ k → k < from + n → test k ≡ true → In x (f k) → P) → P
@@ -143,6 +146,7 @@ module _ {A : Type 0} where
       in_append (pick (test from) (f from) []) (over (suc from) n test f) i
       (λ j. in_pick (test from) j (λ t m. p from (omega arith) (omega arith) t m))
       (λ j. over_in (suc from) n test f j (λ k low high t m. p k (omega arith) (omega arith) t m))
+  over_in {P = P} from zero test f i p = elim i [ ]
 
 pub some_out : {P : Type 0} (test : Shape → Bool) (ws : List Shape) → some test ws ≡ true → ((w : Shape) → In w ws → test w ≡ true → P) → P
 unfolding some

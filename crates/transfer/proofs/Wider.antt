@@ -130,6 +130,7 @@ module _ (image u : List ℕ) where
   unfolding all_passes
   passes_at words depth pc fs (w ∷ ws) e first = each_left (word_passes words depth pc fs w) (all_passes words depth pc fs ws) e
   passes_at words depth pc fs (v ∷ ws) e (later i) = passes_at words depth pc fs ws (each_right (word_passes words depth pc fs v) (all_passes words depth pc fs ws) e) i
+  passes_at {P = P} words depth pc fs [] {w = w} e x'' = elim x'' [ ]
 
   pub passes_from_lem : {P : Pass Cell → Type 0} (words depth pc : ℕ) (fs : List ℕ) (ws : List Shape) → ((w : Shape) → In w ws → Each P (word_passes words depth pc fs w)) → Each P (all_passes words depth pc fs ws)
   unfolding all_passes

@@ -1,5 +1,7 @@
 // The walk over all that a cell passes on: what its word passes on, or what the words that its XEC may execute do, and
 // a RET's way back to the address after every call site.
+#![tactic(auto)]
+
 ghost use Rattle.std.specs.Prelude.{◌≡◌, true, false, ◌&&◌, [], ◌∷◌, ◌+◌, ◌-◌, ◌≤◌, ◌<◌, ltb, length};
 ghost use Rattle.choice.specs.Choice.{pick};
 ghost use Rattle.machine.specs.Shape.{source_of, go, defer};

@@ -1,12 +1,14 @@
 // The instruction word: decoded from 16 bits to a case with its fields. (`encoding` writes it again.)
 // Fields bear the manual's letters: s source, rl rotation or length, d destination, i constant, l length, a address.
 // RET's i is the low byte that it keeps and that no step looks at.
+#![tactic(auto)]
+
 ghost use Rattle.std.specs.Prelude.{true, ◌≡◌, ◌<◌, ◌+◌, ◌*◌};
 ghost use Rattle.word.specs.Word.{is_bank, is_register_source, is_register_target, is_source, is_target};
 ghost use Rattle.word.specs.Word.{act_of, act_read, xec_read, nzt_read, xmit_read, decoded, is_valid, fields_of, reading};
 ghost use Rattle.word.specs.Word.{word_of};
 
-#[derive(Drop)]
+#[derive(Clone, Copy)]
 pub enum Word {
     Move { s: usize, rl: usize, d: usize },
     Add { s: usize, rl: usize, d: usize },
@@ -28,7 +30,7 @@ pub enum Word {
 pub const FIRST_BANK: usize = 16;
 
 // What encoding answers: the word's 16 bits, or the refusal 22.
-#[derive(Drop)]
+#[derive(Clone, Copy)]
 pub enum Encoding {
     Bits(u16),
     Refused,

@@ -1,0 +1,58 @@
+-- `callers::is_call_site` meets its contract. Assumes nothing.
+use mathlib.Core.Path.{refl, sym, ◌∙◌, ap, subst}
+use native.Mathlib.Omega.{arith}
+use Rattle.forms.specs.Forms.{shape_is, FormFits}
+use Rattle.machine.specs.Step.{word_count}
+use Rattle.transfer.specs.Passes.{is_call, some}
+use Rattle.callers.proofs.Points.{point_small, point_room}
+use Rattle.callers.proofs.Sites.{no_site, site, site_bounded}
+use Rattle.callers.proofs.Words.{itself, one_word}
+use borrow.Author.Rules.{rules}
+use mathlib.Core.Bool.{not}
+use Rattle.callers.proofs.is_call_site.Goals as goal
+
+pub overflow_mul-at : goal.overflow_mul-at
+overflow_mul-at c =
+    let start = c in
+    omega (arith, point_small (word_count start.args.image.now) start.args.depth start.args.a start.requires.2 start.requires.1 start.requires.0.words)
+
+pub overflow_add-at : goal.overflow_add-at
+overflow_add-at c =
+    let start = c in
+    omega (arith, point_small (word_count start.args.image.now) start.args.depth start.args.a start.requires.2 start.requires.1 start.requires.0.words)
+
+pub reached-requires : goal.reached-requires
+reached-requires c =
+    let start = c in
+    rw start.requires.0.long (point_room (word_count start.args.image.now) start.args.depth start.args.a start.requires.2 start.requires.1)
+
+pub returns-then-not-reached : goal.returns-then-not-reached
+returns-then-not-reached c =
+    let start = c in
+    no_site start.args.image.now start.args.table.now start.args.depth start.args.a c.reached.ensures (ap not c.if-not-reached.true)
+
+pub load-c-requires : goal.load-c-requires
+load-c-requires c =
+    let start = c in
+    let a = start.args in
+    rw start.requires.0.long (point_room (word_count a.image.now) a.depth a.a start.requires.2 start.requires.1)
+
+pub xec_performs-requires : goal.xec_performs-requires
+xec_performs-requires c =
+    let start = c in
+    let a = start.args in
+    let fits = subst FormFits c.in-Defer.is c.form_at-form.ensures.1 in
+    (record { words = start.requires.0.words; inside = start.requires.2 }, site_bounded a.image.now a.table.now a.depth a.a start.requires.0 start.requires.1 start.requires.2 c.load-c.ensures, fits.0, fits.1, fits.2)
+
+pub returns-in-Defer : goal.returns-in-Defer
+returns-in-Defer c =
+    let a = c.args in
+    site a.image.now a.table.now a.depth a.a c.reached.ensures (ap not c.if-not-reached.false) c.load-c.ensures
+    (sym (ap shape_is c.in-Defer.is) ∙ c.form_at-form.ensures.0) c.xec_performs.ensures
+
+pub returns : goal.returns
+returns c =
+    let a = c.args in
+    let form = c.form_at-form.result in
+    site a.image.now a.table.now a.depth a.a c.reached.ensures (ap not c.if-not-reached.false) refl c.form_at-form.ensures.0
+    (c.is_call.ensures ∙ sym (ap (some is_call) (itself a.image.now a.a _ form c.in_default.not-Defer) ∙ one_word is_call (shape_is form)))

@@ -1,0 +1,12 @@
+-- The measure is what is left of the words.
+use Rattle.std.proofs.Common.{◌-◌, arith, rules}
+use Rattle.check_library.proofs.read.Goals as goal
+
+pub loop-bits-init : goal.loop-bits-init
+loop-bits-init c = tt
+
+pub loop-bits-smaller : goal.loop-bits-smaller
+loop-bits-smaller c = omega arith
+
+pub loop-bits-preserved : goal.loop-bits-preserved
+loop-bits-preserved c = tt

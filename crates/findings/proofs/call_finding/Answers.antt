@@ -1,0 +1,34 @@
+-- `findings::call_finding` meets its contract. Assumes nothing.
+use mathlib.Core.Path.{refl}
+use mathlib.Core.Bool.{◌&&◌}
+use Prim.Native.Nat.{◌+◌, ◌*◌}
+use lib.Dec.{ltb}
+use Rattle.machine.specs.Step.{word_count}
+use Rattle.findings.proofs.Asking.{call_full, call_unknown, call_inside, call_outside}
+use borrow.Author.Rules.{rules}
+use Rattle.findings.proofs.call_finding.Goals as goal
+
+pub returns-then-depth-ge-PLACES : goal.returns-then-depth-ge-PLACES
+returns-then-depth-ge-PLACES c = λ map table.
+    let a = c.args in
+    call_full a.image.now map table a.facts a.depth a.pc a.i c.if-depth-ge-PLACES.true
+
+pub returns-then-v-ne1 : goal.returns-then-v-ne1
+returns-then-v-ne1 c = λ map table.
+    let a = c.args in
+    let v = c.values_of-v in
+    call_unknown a.image.now map table a.facts a.depth a.pc a.i v.result.low v.result.count v.ensures.0 c.if-depth-ge-PLACES.false c.if-v-ne1.true
+
+pub returns-then-v-i : goal.returns-then-v-i
+returns-then-v-i c = λ map table.
+    let a = c.args in
+    let v = c.values_of-v in
+    call_inside a.image.now map table a.facts a.depth a.pc a.i v.result.low v.result.count v.ensures.0
+    (ltb (v.result.low * 256 + a.i) (word_count a.image.now) && ltb (a.pc + 1) (word_count a.image.now)) c.if-depth-ge-PLACES.false c.if-v-ne1.false refl c.if-v-i.true
+
+pub returns-else-v-i : goal.returns-else-v-i
+returns-else-v-i c = λ map table.
+    let a = c.args in
+    let v = c.values_of-v in
+    call_outside a.image.now map table a.facts a.depth a.pc a.i v.result.low v.result.count v.ensures.0
+    (ltb (v.result.low * 256 + a.i) (word_count a.image.now) && ltb (a.pc + 1) (word_count a.image.now)) c.if-depth-ge-PLACES.false c.if-v-ne1.false refl c.if-v-i.false

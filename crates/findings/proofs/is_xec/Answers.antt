@@ -1,0 +1,7 @@
+-- `findings::is_xec` meets its contract. Assumes nothing.
+use Rattle.callers.proofs.Words.{is_no_defer}
+use borrow.Author.Rules.{rules}
+use Rattle.findings.proofs.is_xec.Goals as goal
+
+pub returns : goal.returns
+returns c = is_no_defer c.args.form c.in_default.not-Defer

@@ -1,0 +1,17 @@
+-- `passing::pass_branch` meets its contract. Assumes nothing.
+use borrow.Author.Rules.{rules}
+use Rattle.machine.specs.Shape.{source_of}
+use Rattle.passing.proofs.Passing.{still_ready}
+use Rattle.passing.proofs.Going.{branch_passed}
+use Rattle.passing.proofs.pass_branch.Goals as goal
+
+pub pass_if-away-requires : goal.pass_if-away-requires
+pass_if-away-requires c =
+    let start = c in
+    (still_ready start.requires.0 c.pass_if-on.ensures, start.requires.1, start.requires.3)
+
+pub returns : goal.returns
+returns c =
+    let a = c.args in
+    branch_passed a.image.now a.asked.now a.depth a.pc a.facts (source_of a.s 0 0 a.l) a.page a.i c.values_of-v.result c.in_page-a.result
+    c.values_of-v.ensures.0 c.in_page-a.ensures c.pass_if-on.ensures c.pass_if-away.ensures

@@ -1,0 +1,65 @@
+-- `passing::pass_call` meets its contract. The invariant: the first n values of AUX are passed on. Assumes nothing.
+use mathlib.Core.Path.{refl}
+use Prim.Native.Nat.{◌-◌, ◌≤◌}
+use native.Mathlib.Omega.{arith}
+use borrow.Author.Rules.{rules}
+use Rattle.machine.specs.Step.{word_count}
+use Rattle.passing.specs.Passing.{Passed}
+use Rattle.passing.proofs.Passing.{passed_size, passed_marks, still_ready}
+use Rattle.passing.proofs.Going.{called_to, call_begins, call_next, call_still, call_passed, call_none}
+use Rattle.passing.proofs.pass_call.Goals as goal
+
+pub returns-then-depth-eq-PLACES : goal.returns-then-depth-eq-PLACES
+returns-then-depth-eq-PLACES c =
+    let start = c in
+    let a = start.args in
+    call_none a.image.now a.asked.now a.depth a.pc a.facts a.i a.table.now a.marks.now c.if-depth-eq-PLACES.true start.requires.0
+
+pub loop-n-init : goal.loop-n-init
+loop-n-init c =
+    let start = c in
+    let a = start.args in
+    (omega arith, call_begins a.image.now a.asked.now a.depth a.facts a.i c.values_of-v.result.low start.requires.0)
+
+pub shape_of-table-then-image-a : goal.shape_of-table-then-image-a
+shape_of-table-then-image-a c = passed_size c.requires.0 c.loop-n.invariant.1
+
+pub shape_of-marks-then-image-a : goal.shape_of-marks-then-image-a
+shape_of-marks-then-image-a c = passed_marks c.requires.0 c.loop-n.invariant.1
+
+pub returns-then-image-a : goal.returns-then-image-a
+returns-then-image-a c =
+    let start = c in
+    let a = start.args in
+    let p = c.loop-n in
+    let v = c.values_of-v in
+    call_passed a.image.now a.asked.now a.depth a.pc a.facts a.i v.result v.result.count v.ensures.0
+    (omega (arith, c.if-depth-eq-PLACES.false, start.requires.1)) refl
+    (call_still a.image.now a.asked.now a.depth a.facts a.i v.result.low p.n v.result.count p.invariant.0 c.if-image-a.true p.invariant.1)
+
+pub pass-r-requires : goal.pass-r-requires
+pass-r-requires c =
+    let start = c in
+    (still_ready start.requires.0 c.loop-n.invariant.1, omega (arith, c.if-depth-eq-PLACES.false, start.requires.1), start.requires.2)
+
+pub loop-n-preserved : goal.loop-n-preserved
+loop-n-preserved c =
+    let start = c in
+    let a = start.args in
+    let p = c.loop-n in
+    (omega (arith, c.loop-n-test.true), call_next a.image.now a.asked.now a.depth a.facts a.i c.values_of-v.result.low p.n p.invariant.1 c.pass-r.ensures)
+
+pub shape_of-table : goal.shape_of-table
+shape_of-table c = passed_size c.requires.0 c.loop-n.invariant.1
+
+pub shape_of-marks : goal.shape_of-marks
+shape_of-marks c = passed_marks c.requires.0 c.loop-n.invariant.1
+
+pub returns : goal.returns
+returns c =
+    let start = c in
+    let a = start.args in
+    let p = c.loop-n in
+    let v = c.values_of-v in
+    call_passed a.image.now a.asked.now a.depth a.pc a.facts a.i v.result p.n v.ensures.0
+    (omega (arith, c.if-depth-eq-PLACES.false, start.requires.1)) (omega (arith, c.loop-n-test.false, p.invariant.0)) p.invariant.1

@@ -1,0 +1,16 @@
+use mathlib.Core.Path.{refl}
+use Prim.Native.Nat.{◌-◌, ◌≤◌}
+use native.Mathlib.Omega.{arith}
+use borrow.Author.Rules.{rules}
+use Rattle.machine.specs.Step.{word_count}
+use Rattle.passing.specs.Passing.{Passed}
+use Rattle.passing.proofs.Passing.{passed_size, passed_marks, still_ready}
+use Rattle.passing.proofs.Going.{called_to, call_begins, call_next, call_still, call_passed, call_none}
+use Rattle.passing.proofs.pass_call.Given as goal
+
+abbrev pub invariant-loop-n : goal.invariant-loop-n
+invariant-loop-n l =
+    (l.n ≤ l.v.count) × Passed l.image l.asked l.depth l.initial.table l.initial.marks (called_to (word_count l.image) l.depth l.facts l.i l.v.low l.n) l.table l.marks l.changed
+
+abbrev pub decreases-loop-n : goal.decreases-loop-n
+decreases-loop-n l = l.v.count - l.n

@@ -1,0 +1,17 @@
+-- `passing::pass_if` meets its contract. Assumes nothing.
+use borrow.Author.Rules.{rules}
+use Rattle.machine.specs.Step.{word_count}
+use Rattle.transfer.specs.Passes.{toward}
+use Rattle.passing.proofs.Passing.{passed_if, passed_not}
+use Rattle.passing.proofs.pass_if.Goals as goal
+
+pub returns-then-test : goal.returns-then-test
+returns-then-test c =
+    let a = c.args in
+    passed_if a.test (toward (word_count a.image.now) a.depth a.a a.facts) c.if-test.true c.pass.ensures
+
+pub returns : goal.returns
+returns c =
+    let start = c in
+    let a = start.args in
+    passed_not a.image.now a.asked.now a.depth a.table.now a.marks.now a.test (toward (word_count a.image.now) a.depth a.a a.facts) c.if-test.false start.requires.0

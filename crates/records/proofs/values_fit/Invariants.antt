@@ -1,0 +1,14 @@
+use mathlib.Core.Path.{◌≡◌, refl}
+use Prim.Native.Nat.{◌≤◌, ◌-◌}
+use native.Mathlib.Omega.{arith}
+use borrow.Author.Rules.{rules}
+use Rattle.facts.specs.Facts.{fact_count}
+use Rattle.records.specs.Records.{values_fit}
+use Rattle.records.proofs.Laws.{values_stop, values_go_on, values_end}
+use Rattle.records.proofs.values_fit.Given as goal
+
+abbrev pub invariant-loop-k : goal.invariant-loop-k
+invariant-loop-k l = (l.k ≤ fact_count) × (values_fit l.b 0 fact_count ≡ values_fit l.b l.k (fact_count - l.k))
+
+abbrev pub decreases-loop-k : goal.decreases-loop-k
+decreases-loop-k l = fact_count - l.k

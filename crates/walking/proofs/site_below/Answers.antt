@@ -1,0 +1,43 @@
+-- `walking::site_below` meets its contract. Assumes nothing.
+use native.Mathlib.Omega.{arith}
+use borrow.Author.Rules.{rules}
+use borrow.Author.Tests.{lt-ltb, le-ltb}
+use Rattle.passing.proofs.Passing.{small_depth}
+use Rattle.walking.proofs.Returning.{asked_last, marked_last}
+use Rattle.walking.proofs.site_below.Goals as goal
+
+pub asked_below-requires : goal.asked_below-requires
+asked_below-requires c =
+    let start = c in
+    (start.requires.1 (lt-ltb 0 _ c.if-asked-gt0.true), start.requires.3, start.requires.4)
+
+pub returns-then-asked-gt0 : goal.returns-then-asked-gt0
+returns-then-asked-gt0 c =
+    let a = c.args in
+    asked_last a.image.now a.asked.now a.marks.now a.depth a.a c.if-asked-gt0.true c.asked_below.ensures
+
+pub overflow_mul-first : goal.overflow_mul-first
+overflow_mul-first c =
+    let start = c in
+    omega (arith, small_depth start.args.image.now start.args.depth start.requires.0 start.requires.3)
+
+pub overflow_add-first : goal.overflow_add-first
+overflow_add-first c =
+    let start = c in
+    omega (arith, small_depth start.args.image.now start.args.depth start.requires.0 start.requires.3)
+
+pub overflow_add-first-2 : goal.overflow_add-first-2
+overflow_add-first-2 c =
+    let start = c in
+    omega (arith, small_depth start.args.image.now start.args.depth start.requires.0 start.requires.3, start.requires.0, start.requires.4)
+
+pub last-requires : goal.last-requires
+last-requires c =
+    let start = c in
+    let long = start.requires.2 (le-ltb 0 _ c.if-asked-gt0.false) in
+    (omega arith, omega (arith, long, small_depth start.args.image.now start.args.depth start.requires.0 start.requires.3, start.requires.0, start.requires.4))
+
+pub returns : goal.returns
+returns c =
+    let a = c.args in
+    marked_last a.image.now a.asked.now a.marks.now a.depth a.a c.if-asked-gt0.false c.last.ensures
