@@ -1,7 +1,7 @@
 /* RIPTIDE-II panel programs: reading and writing words, counting a map's sets, foretelling, admission, checking a table
  * that came along, reset, run and listing.
  *
- * Link target/staticlib/libriptide.a, which `rt staticlib riptide` writes. Every call takes any bytes of any length,
+ * Link target/staticlib/libriptide.a, which `tools/library` writes. Every call takes any bytes of any length,
  * ends, and gives one number. A pointer is followed by the count of bytes behind it; with a count of 0 it must still
  * not be null. Bytes lent with `const` are never written, the others only as said. A refusal changes no byte.
  * docs/FORMATS.md has every byte of image, map, state, recording, trace, table and page.

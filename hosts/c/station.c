@@ -1,6 +1,6 @@
 /* What a line-end station does with a program: reads the map and the image from standard input, foretells, makes room for
  * the table, admits, and, if admitted, prints its listing page and runs one pass over a recording of zeros from reset. Build,
- * from the repository's root, after `rt staticlib riptide`:
+ * from the repository's root, after `tools/library`:
  *   cc -Iinclude hosts/c/station.c target/staticlib/libriptide.a -o target/station
  */
 #include <stdio.h>

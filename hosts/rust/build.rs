@@ -1,4 +1,4 @@
-//! Links the archive that `rt staticlib riptide` writes. `RIPTIDE_LIB` names its folder, if it is another than the
+//! Links the archive that `tools/library` writes. `RIPTIDE_LIB` names its folder, if it is another than the
 //! repository's `target/staticlib`.
 
 use std::path::{Path, PathBuf};
@@ -11,7 +11,7 @@ fn main() {
     println!("cargo:rerun-if-changed={}", archive.display());
     let Ok(archive) = archive.canonicalize() else {
         eprintln!("there is no {}", archive.display());
-        eprintln!("`rt staticlib riptide` in the repository's root writes it; or name its folder in RIPTIDE_LIB");
+        eprintln!("`tools/library` in the repository's root writes it; or name its folder in RIPTIDE_LIB");
         std::process::exit(1);
     };
     let folder = archive.parent().expect("a file is in a folder");

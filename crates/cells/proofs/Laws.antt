@@ -7,11 +7,10 @@ use native.Mathlib.Nat.{not-suc-le-zero, le_of_suc-le-suc}
 use lib.Dec.{eqb}
 use lib.ListN.{length, get_or, take, drop}
 use borrow.Author.Tests.{eq-eqb, ne_eqb}
-use borrow.Rule.Slice.PartMut.{put_mid, Post-is, mid_len}
+use borrow.Rule.Slice.PartMut.{put_mid, Post-is}
 use Rattle.choice.specs.Choice.{pick}
 use Rattle.state.specs.State.{bytes_from}
 use Rattle.state.proofs.RoundTrip.{whole}
-use Rattle.state.proofs.Laws.{copied}
 use Rattle.facts.specs.declared.Cell.{Cell}
 use Rattle.facts.specs.Facts.{fact_count, unknown}
 use Rattle.facts.specs.Record.{record_size, mask_of, value_byte, record_of, fact_at, read_cell, cell_at, put_record, FineCell}

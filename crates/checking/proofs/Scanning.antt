@@ -14,7 +14,7 @@ use Rattle.facts.specs.Record.{record_size, depths}
 use Rattle.records.specs.Records.{record_fits}
 use Rattle.transfer.specs.Passes.{point_at}
 use Rattle.transfer.specs.Findings.{first_of}
-use Rattle.transfer.proofs.First.{NoneBefore, first, first_here, first_none}
+use Rattle.transfer.proofs.First.{NoneBefore, first_here, first_none}
 use Rattle.checking.specs.declared.CheckAnswer.{CheckAnswer}
 use Rattle.checking.specs.declared.CheckAnswer.TheVariants.{Failed}
 use Rattle.checking.specs.Check.{layout_at, fails_at, in_order}

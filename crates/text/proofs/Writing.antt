@@ -9,7 +9,6 @@ use borrow.Rule.Slice.PartMut.{put_mid, mid_len, same_len_mid}
 use lib.ListN.{length, take, drop, set, length-append, length-set, length-replicate}
 use lib.Pow.{pow-add}
 use lib.Seq.{length-take-le, take_at, take-suc-set, drop_at, drop-drop, drop-set-lt}
-use Rattle.state.proofs.Laws.{copied}
 use Rattle.text.specs.Text.{decimal, octal, spaces, filled}
 use Rattle.text.specs.Parts.{Written}
 

@@ -86,7 +86,7 @@ fn the_guide_in_c() {
 #[test]
 fn the_guide_in_a_shell() {
     if !["bench", "list"].iter().all(|name| root().join("target/bin").join(name).exists()) {
-        println!("skipped: target/bin/bench or list is not there, which `rt check bench` and `rt check list` write");
+        println!("skipped: target/bin/bench or list is not there, which `tools/program bench` and `tools/program list` write");
         return;
     }
     for (text, prints) in examples("sh") {

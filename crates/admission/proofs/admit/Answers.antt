@@ -1,6 +1,5 @@
 -- `admission::admit` meets its contract: a law for each way out. Assumes nothing.
 use native.Mathlib.Omega.{arith}
-use borrow.Author.Rules.{rules}
 use Rattle.emulator.proofs.Door.{image_some, image_words}
 use Rattle.admission.proofs.Opening.{unswept, turned_away_lem, opened, yields, least_held}
 use Rattle.admission.proofs.admit.Goals as goal

@@ -1,8 +1,6 @@
 -- `admission::door` meets its contract. Assumes nothing.
 use mathlib.Core.Path.{sym, ◌∙◌}
 use native.Mathlib.Omega.{arith}
-use borrow.Author.Rules.{rules}
-use borrow.Author.Tests.{not-true, not-false}
 use Rattle.emulator.proofs.Door.{image_words}
 use Rattle.admission.proofs.Opening.{asked_11, asked_12, asked_13, asked_all}
 use Rattle.admission.proofs.door.Goals as goal

@@ -1,14 +1,10 @@
 -- `admission::mark` meets its contract. The loop goes through the cells in order. Assumes nothing.
 use mathlib.Core.Path.{refl, sym, ◌∙◌}
-use Prim.Native.Nat.{◌-◌, ◌*◌, ◌<◌}
 use native.Mathlib.Omega.{arith}
 use lib.Arith.{digits_lt}
-use borrow.Author.Rules.{rules}
 use Rattle.machine.specs.Step.{word_count}
-use Rattle.facts.specs.Record.{depths}
-use Rattle.transfer.specs.Passes.{point_at}
 use Rattle.callers.proofs.Points.{next_address, next_depth}
-use Rattle.admission.proofs.Marks.{Marks, marks_begin, marks_held, marks_next, marks_end, marks_admitted, marks_found}
+use Rattle.admission.proofs.Marks.{marks_begin, marks_held, marks_next, marks_end, marks_admitted, marks_found}
 use Rattle.admission.proofs.mark.Goals as goal
 
 pub loop-depth-init : goal.loop-depth-init

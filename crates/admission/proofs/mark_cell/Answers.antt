@@ -1,6 +1,5 @@
 -- `admission::mark_cell` meets its contract. Assumes nothing.
 use native.Mathlib.Omega.{arith}
-use borrow.Author.Rules.{rules}
 use Rattle.machine.specs.Step.{word_count}
 use Rattle.transfer.specs.Passes.{point_at}
 use Rattle.admission.proofs.Marks.{low, room, fine_here, stored_so}

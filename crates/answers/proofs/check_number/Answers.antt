@@ -1,6 +1,5 @@
 -- `answers::check_number` meets its contract. Assumes nothing.
 use mathlib.Core.Path.{◌∙◌, ap, sym, subst}
-use borrow.Author.Rules.{rules}
 use Rattle.answers.specs.Numbers.{check_number}
 use Rattle.answers.specs.Fits.{CheckFits}
 use Rattle.answers.proofs.check_number.Goals as goal

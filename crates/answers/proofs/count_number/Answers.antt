@@ -1,6 +1,5 @@
 -- `answers::count_number` meets its contract. Assumes nothing.
 use mathlib.Core.Path.{◌∙◌, ap, sym, subst}
-use borrow.Author.Rules.{rules}
 use Rattle.answers.specs.Numbers.{count_number}
 use Rattle.answers.specs.Fits.{CountsFit}
 use Rattle.answers.proofs.count_number.Goals as goal

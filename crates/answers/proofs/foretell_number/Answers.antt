@@ -1,7 +1,6 @@
 -- `answers::foretell_number` meets its contract. Assumes nothing.
 use mathlib.Core.Path.{ap, sym, subst}
 use native.Mathlib.Omega.{arith}
-use borrow.Author.Rules.{rules}
 use Rattle.answers.specs.Numbers.{foretell_number}
 use Rattle.answers.specs.Fits.{ForetoldFits}
 use Rattle.answers.proofs.foretell_number.Goals as goal

@@ -1,6 +1,5 @@
 -- `answers::run_number` meets its contract. Assumes nothing.
 use mathlib.Core.Path.{ap, sym}
-use borrow.Author.Rules.{rules}
 use Rattle.answers.specs.Numbers.{run_number}
 use Rattle.answers.proofs.run_number.Goals as goal
 

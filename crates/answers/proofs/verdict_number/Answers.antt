@@ -1,7 +1,6 @@
 -- `answers::verdict_number` meets its contract. Assumes nothing.
 use mathlib.Core.Path.{◌∙◌, ap, sym, subst}
 use native.Mathlib.Omega.{arith}
-use borrow.Author.Rules.{rules}
 use Rattle.answers.specs.Numbers.{verdict_number}
 use Rattle.answers.specs.Fits.{VerdictFits}
 use Rattle.answers.proofs.verdict_number.Goals as goal

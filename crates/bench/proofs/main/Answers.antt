@@ -1,6 +1,5 @@
 -- The line that is written is as long as `line::line` says.
 use mathlib.Core.Path.{sym}
-use borrow.Author.Rules.{rules}
 use lib.Seq.{length-take-le}
 use Rattle.bench.proofs.main.Goals as goal
 

@@ -2,7 +2,6 @@
 use native.Mathlib.Omega.{arith}
 use Rattle.machine.proofs.InRange.{page_range}
 use Rattle.callers.proofs.Executing.{gives_told}
-use borrow.Author.Rules.{rules}
 use Rattle.callers.proofs.gives.Goals as goal
 
 pub overflow_add-k : goal.overflow_add-k

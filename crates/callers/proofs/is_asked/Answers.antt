@@ -1,5 +1,4 @@
 -- `callers::is_asked` meets its contract. Assumes nothing.
-use borrow.Author.Rules.{rules}
 use Rattle.callers.proofs.is_asked.Goals as goal
 
 pub returns-then-returns : goal.returns-then-returns

@@ -1,6 +1,5 @@
 -- `callers::is_call` meets its contract. Assumes nothing.
 use Rattle.callers.proofs.Words.{is_no_call}
-use borrow.Author.Rules.{rules}
 use Rattle.callers.proofs.is_call.Goals as goal
 
 pub returns : goal.returns

@@ -7,7 +7,6 @@ use Rattle.transfer.specs.Passes.{is_call, some}
 use Rattle.callers.proofs.Points.{point_small, point_room}
 use Rattle.callers.proofs.Sites.{no_site, site, site_bounded}
 use Rattle.callers.proofs.Words.{itself, one_word}
-use borrow.Author.Rules.{rules}
 use mathlib.Core.Bool.{not}
 use Rattle.callers.proofs.is_call_site.Goals as goal
 

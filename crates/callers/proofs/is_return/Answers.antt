@@ -1,6 +1,5 @@
 -- `callers::is_return` meets its contract. Assumes nothing.
 use Rattle.callers.proofs.Words.{is_no_return}
-use borrow.Author.Rules.{rules}
 use Rattle.callers.proofs.is_return.Goals as goal
 
 pub returns : goal.returns

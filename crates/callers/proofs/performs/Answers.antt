@@ -5,7 +5,6 @@ use Rattle.forms.specs.declared.Form.{Form}
 use Rattle.forms.specs.Forms.{shape_is, FormFits}
 use Rattle.transfer.specs.Passes.{is_call, is_return, some, words_at}
 use Rattle.callers.proofs.Words.{itself, one_word}
-use borrow.Author.Rules.{rules}
 use Rattle.callers.proofs.performs.Goals as goal
 
 pub xec_performs-requires : goal.xec_performs-requires

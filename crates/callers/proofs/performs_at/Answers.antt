@@ -1,6 +1,5 @@
 -- `callers::performs_at` meets its contract. Assumes nothing.
 use Rattle.callers.proofs.Executing.{not_given, not_inside, is_executed}
-use borrow.Author.Rules.{rules}
 use mathlib.Core.Path.{ap}
 use mathlib.Core.Bool.{not}
 use Rattle.callers.proofs.performs_at.Goals as goal

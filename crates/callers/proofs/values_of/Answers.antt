@@ -1,7 +1,6 @@
 -- `callers::values_of` meets its contract. Assumes nothing.
 use native.Mathlib.Omega.{arith}
 use Rattle.callers.proofs.Executing.{unknown_values, known_values, whole_values, field_values}
-use borrow.Author.Rules.{rules}
 use Rattle.callers.proofs.values_of.Goals as goal
 
 pub returns-then-f-eq-UNKNOWN : goal.returns-then-f-eq-UNKNOWN

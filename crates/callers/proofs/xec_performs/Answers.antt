@@ -1,13 +1,10 @@
 -- `callers::xec_performs` meets its contract. Assumes nothing.
-use mathlib.Core.Path.{◌≡◌}
-use Prim.Native.Nat.{◌-◌}
 use native.Mathlib.Omega.{arith}
 use Rattle.choice.specs.Choice.{pick}
 use Rattle.machine.specs.Shape.{source_of}
-use Rattle.transfer.specs.Passes.{is_call, is_return, some}
+use Rattle.transfer.specs.Passes.{is_call, is_return}
 use Rattle.callers.specs.Callers.{span_is}
-use Rattle.callers.proofs.Executing.{executed_from, performs_begins, performs_found, performs_next, performs_none}
-use borrow.Author.Rules.{rules}
+use Rattle.callers.proofs.Executing.{performs_begins, performs_found, performs_next, performs_none}
 use Rattle.callers.proofs.xec_performs.Goals as goal
 
 pub loop-k-init : goal.loop-k-init

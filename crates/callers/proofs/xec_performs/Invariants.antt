@@ -1,12 +1,9 @@
 use mathlib.Core.Path.{◌≡◌}
 use Prim.Native.Nat.{◌-◌}
-use native.Mathlib.Omega.{arith}
 use Rattle.choice.specs.Choice.{pick}
-use Rattle.machine.specs.Shape.{source_of}
 use Rattle.transfer.specs.Passes.{is_call, is_return, some}
 use Rattle.callers.specs.Callers.{span_is}
-use Rattle.callers.proofs.Executing.{executed_from, performs_begins, performs_found, performs_next, performs_none}
-use borrow.Author.Rules.{rules}
+use Rattle.callers.proofs.Executing.{executed_from}
 use Rattle.callers.proofs.xec_performs.Given as goal
 
 abbrev pub invariant-loop-k : goal.invariant-loop-k

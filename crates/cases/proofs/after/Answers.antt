@@ -1,6 +1,5 @@
 -- `cases::after` meets its contract. Assumes nothing.
 use native.Mathlib.Omega.{arith}
-use borrow.Author.Rules.{rules}
 use Rattle.cases.proofs.Laws.{behind_mark, at_the_end}
 use Rattle.cases.proofs.after.Goals as goal
 

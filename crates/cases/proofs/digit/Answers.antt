@@ -1,6 +1,5 @@
 -- `cases::digit` meets its contract: the definition's tests, one after the other. Assumes nothing.
 use native.Mathlib.Omega.{arith}
-use borrow.Author.Rules.{rules}
 use borrow.Author.Tests.{lt-ltb, le-ltb}
 use Rattle.cases.specs.Cases.{digit_of}
 use Rattle.cases.proofs.digit.Goals as goal

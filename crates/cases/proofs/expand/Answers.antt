@@ -1,5 +1,4 @@
 -- `cases::expand` meets its contract: the law of its letter. Assumes nothing.
-use borrow.Author.Rules.{rules}
 use lib.ListN.{length}
 use Rattle.cases.proofs.Forms.{of_hex, of_lcg, of_fill, of_valid, of_none}
 use Rattle.cases.proofs.Laying.{the_bytes, all_there, none_yet}

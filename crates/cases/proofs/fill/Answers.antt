@@ -1,7 +1,6 @@
 -- `cases::fill` meets its contract: the part at the start is filled at once. Assumes nothing.
 use mathlib.Core.Path.{sym, ap, ◌∙◌}
 use Prim.Native.Nat.{◌%◌}
-use borrow.Author.Rules.{rules}
 use Rattle.digest.specs.Digest.{in_turn}
 use Rattle.digest.proofs.Laws.{length_in_turn}
 use Rattle.cases.proofs.Laying.{filled_first}

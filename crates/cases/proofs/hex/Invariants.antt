@@ -1,11 +1,8 @@
-use Prim.Native.Nat.{suc, ◌+◌, ◌-◌}
-use mathlib.Core.Path.{◌≡◌, refl, sym, ap}
-use native.Mathlib.Nat.{sub-zero}
-use native.Mathlib.Omega.{arith}
-use borrow.Author.Rules.{rules}
-use lib.ListN.{length, set, length-set}
+use Prim.Native.Nat.{◌-◌}
+use mathlib.Core.Path.{◌≡◌}
+use lib.ListN.{length}
 use Rattle.cases.specs.Cases.{hex_from}
-use Rattle.cases.proofs.Laying.{Partly, none_yet, the_rest, all_there, stored_one, hex_over, hex_more, hex_full}
+use Rattle.cases.proofs.Laying.{Partly}
 use Rattle.cases.proofs.hex.Given as goal
 
 abbrev pub invariant-loop-n : goal.invariant-loop-n

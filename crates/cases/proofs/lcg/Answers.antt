@@ -1,6 +1,5 @@
 -- `cases::lcg` meets its contract: the part at the start is filled at once. Assumes nothing.
 use mathlib.Core.Path.{sym, ap, ◌∙◌}
-use borrow.Author.Rules.{rules}
 use Rattle.digest.specs.Digest.{generated}
 use Rattle.digest.proofs.Laws.{length_generated}
 use Rattle.cases.proofs.Laying.{filled_first}

@@ -1,10 +1,6 @@
 -- `cases::number` meets its contract: the value with the digits left behind it is the number. Assumes nothing.
-use Prim.Native.Nat.{◌<◌, ◌-◌}
-use mathlib.Core.Path.{◌≡◌, refl}
+use mathlib.Core.Path.{refl}
 use native.Mathlib.Omega.{arith}
-use borrow.Author.Rules.{rules}
-use lib.ListN.{length, drop}
-use Rattle.cases.specs.Cases.{with_digits, decimal_at}
 use Rattle.cases.proofs.Laws.{digits_over, no_digit, one_digit}
 use Rattle.cases.proofs.number.Goals as goal
 

@@ -1,10 +1,7 @@
 use Prim.Native.Nat.{◌<◌, ◌-◌}
-use mathlib.Core.Path.{◌≡◌, refl}
-use native.Mathlib.Omega.{arith}
-use borrow.Author.Rules.{rules}
+use mathlib.Core.Path.{◌≡◌}
 use lib.ListN.{length, drop}
 use Rattle.cases.specs.Cases.{with_digits, decimal_at}
-use Rattle.cases.proofs.Laws.{digits_over, no_digit, one_digit}
 use Rattle.cases.proofs.number.Given as goal
 
 abbrev pub invariant-loop-at : goal.invariant-loop-at

@@ -1,7 +1,6 @@
 -- `cases::pair` meets its contract. Assumes nothing.
 use mathlib.Core.Path.{ap, ◌∙◌}
 use native.Mathlib.Omega.{arith}
-use borrow.Author.Rules.{rules}
 use Rattle.cases.specs.Cases.{digit_of}
 use Rattle.cases.proofs.Laws.{no_pair, first_missing, second_missing, both_there}
 use Rattle.cases.proofs.pair.Goals as goal

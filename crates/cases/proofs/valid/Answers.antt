@@ -1,12 +1,9 @@
 -- `cases::valid` meets its contract: the bytes there and those of the words left are the whole. Assumes nothing.
-use Prim.Native.Nat.{◌-◌, ◌≤◌, ◌<◌}
 use mathlib.Core.Path.{◌≡◌, refl, sym, ap, ◌∙◌}
 use native.Mathlib.Nat.{sub-zero}
 use native.Mathlib.Omega.{arith}
-use borrow.Author.Rules.{rules}
-use lib.ListN.{length}
 use Rattle.cases.specs.Cases.{valid_words}
-use Rattle.cases.proofs.Laying.{Partly, none_yet, the_rest, the_bytes, all_there, word_turn, valid_over}
+use Rattle.cases.proofs.Laying.{none_yet, the_rest, the_bytes, all_there, word_turn, valid_over}
 use Rattle.cases.proofs.valid.Goals as goal
 
 pub loop-left-init : goal.loop-left-init

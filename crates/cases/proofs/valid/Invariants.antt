@@ -1,11 +1,8 @@
 use Prim.Native.Nat.{◌-◌, ◌≤◌, ◌<◌}
-use mathlib.Core.Path.{◌≡◌, refl, sym, ap, ◌∙◌}
-use native.Mathlib.Nat.{sub-zero}
-use native.Mathlib.Omega.{arith}
-use borrow.Author.Rules.{rules}
+use mathlib.Core.Path.{◌≡◌}
 use lib.ListN.{length}
 use Rattle.cases.specs.Cases.{valid_words}
-use Rattle.cases.proofs.Laying.{Partly, none_yet, the_rest, the_bytes, all_there, word_turn, valid_over}
+use Rattle.cases.proofs.Laying.{Partly}
 use Rattle.cases.proofs.valid.Given as goal
 
 abbrev pub invariant-loop-left : goal.invariant-loop-left

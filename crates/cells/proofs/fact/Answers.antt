@@ -1,6 +1,5 @@
 -- `cells::fact` meets its contract. Assumes nothing.
 use borrow.Author.Tests.{eq-eqb, ne_eqb}
-use borrow.Author.Rules.{rules}
 use Rattle.cells.proofs.fact.Goals as goal
 
 pub returns-then-mask-k-eq1 : goal.returns-then-mask-k-eq1

@@ -1,5 +1,4 @@
 -- `cells::join_into` meets its contract. Assumes nothing.
-use borrow.Author.Rules.{rules}
 use Rattle.cells.proofs.Joins.{room, joined_fine, already, changed}
 use Rattle.cells.proofs.join_into.Goals as goal
 

@@ -1,6 +1,5 @@
 -- `cells::load` meets its contract. Assumes nothing.
 use mathlib.Core.Path.{◌∙◌}
-use borrow.Author.Rules.{rules}
 use Rattle.cells.proofs.Laws.{part_read}
 use Rattle.cells.proofs.load.Goals as goal
 

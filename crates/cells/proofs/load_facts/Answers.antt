@@ -1,6 +1,5 @@
 -- `cells::load_facts` meets its contract. Assumes nothing.
 use mathlib.Core.Path.{refl}
-use borrow.Author.Rules.{rules}
 use Rattle.state.proofs.Laws.{cons_eq}
 use Rattle.cells.proofs.Laws.{fact_eq}
 use Rattle.cells.proofs.load_facts.Goals as goal

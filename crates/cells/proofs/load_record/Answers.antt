@@ -2,7 +2,6 @@
 use mathlib.Core.Path.{ap}
 use lib.ListN.{get_or}
 use lib.Dec.{eqb}
-use borrow.Author.Rules.{rules}
 use Rattle.facts.specs.Record.{cell_of, read_cell}
 use Rattle.cells.proofs.load_record.Goals as goal
 

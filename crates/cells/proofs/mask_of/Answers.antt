@@ -1,7 +1,6 @@
 -- `cells::mask_of` meets its contract. Assumes nothing.
 use native.Mathlib.Omega.{arith}
 use lib.Dec.{lit<}
-use borrow.Author.Rules.{rules}
 use Rattle.cells.proofs.Laws.{mask_eq}
 use Rattle.cells.proofs.mask_of.Goals as goal
 

@@ -1,7 +1,6 @@
 -- `cells::more` meets its contract. Assumes nothing.
 use native.Mathlib.Omega.{arith}
 use borrow.Author.Tests.{eq-eqb, ne_eqb}
-use borrow.Author.Rules.{rules}
 use Rattle.cells.proofs.more.Goals as goal
 
 pub returns-then-f-eq-UNKNOWN : goal.returns-then-f-eq-UNKNOWN

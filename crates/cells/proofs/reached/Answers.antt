@@ -1,5 +1,4 @@
 -- `cells::reached` meets its contract. Assumes nothing.
-use borrow.Author.Rules.{rules}
 use Rattle.cells.proofs.Laws.{first_byte}
 use Rattle.cells.proofs.reached.Goals as goal
 

@@ -1,7 +1,6 @@
 -- `cells::record_of` meets its contract. Assumes nothing.
 use mathlib.Core.Path.{refl}
 use lib.Dec.{lit<}
-use borrow.Author.Rules.{rules}
 use Rattle.state.proofs.Laws.{cons_eq}
 use Rattle.cells.proofs.Laws.{fact_bound, record_eq}
 use Rattle.cells.proofs.record_of.Goals as goal

@@ -1,7 +1,6 @@
 -- `cells::store` meets its contract. Assumes nothing.
 use mathlib.Core.Path.{◌∙◌, ap}
 use lib.ListN.{length}
-use borrow.Author.Rules.{rules}
 use Rattle.cells.proofs.Laws.{part_put}
 use Rattle.facts.proofs.Mask.{record_length_lem}
 use Rattle.facts.specs.Record.{put_record}

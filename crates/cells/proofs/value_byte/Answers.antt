@@ -1,5 +1,4 @@
 -- `cells::value_byte` meets its contract. Assumes nothing.
-use borrow.Author.Rules.{rules}
 use Rattle.cells.proofs.Laws.{known_value, no_value}
 use Rattle.cells.proofs.value_byte.Goals as goal
 

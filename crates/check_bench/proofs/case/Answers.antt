@@ -1,8 +1,5 @@
 -- The image is put behind the map; the line that is written is as long as `line::line` says.
-use mathlib.Core.Path.{sym}
 use native.Mathlib.Omega.{arith}
-use borrow.Author.Rules.{rules}
-use lib.Seq.{length-take-le}
 use Rattle.check_bench.proofs.Filling.{part_filled}
 use Rattle.check_bench.proofs.case.Goals as goal
 

@@ -1,8 +1,5 @@
 -- The place behind a line lies further; the measure is what is left of the text.
-use borrow.Author.Rules.{rules}
 use native.Mathlib.Omega.{arith}
-use Prim.Native.Nat.{◌≤◌, ◌-◌}
-use lib.ListN.{length}
 use Rattle.check_bench.proofs.cases.Goals as goal
 
 pub loop-at-init : goal.loop-at-init

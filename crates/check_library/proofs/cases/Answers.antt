@@ -1,5 +1,5 @@
 -- The place behind a line lies further; the measure is what is left of the text.
-use Rattle.std.proofs.Common.{◌-◌, ◌≤◌, length, arith, rules}
+use Rattle.std.proofs.Common.{arith}
 use Rattle.check_library.proofs.cases.Goals as goal
 
 pub loop-at-init : goal.loop-at-init

@@ -1,5 +1,5 @@
 -- The measure is what is left of the words.
-use Rattle.std.proofs.Common.{◌-◌, arith, rules}
+use Rattle.std.proofs.Common.{arith}
 use Rattle.check_library.proofs.read.Goals as goal
 
 pub loop-bits-init : goal.loop-bits-init

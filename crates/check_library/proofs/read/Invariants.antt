@@ -1,4 +1,4 @@
-use Rattle.std.proofs.Common.{◌-◌, arith, rules}
+use Rattle.std.proofs.Common.{◌-◌}
 use Rattle.check_library.proofs.read.Given as goal
 
 abbrev pub invariant-loop-bits : goal.invariant-loop-bits

@@ -1,5 +1,5 @@
 -- The measure is what is left of the image.
-use Rattle.std.proofs.Common.{◌≡◌, ◌-◌, length, refl, arith, length-set, rules}
+use Rattle.std.proofs.Common.{refl, arith, length-set}
 use Rattle.check_library.proofs.rise.Goals as goal
 
 pub loop-k-init : goal.loop-k-init

@@ -1,4 +1,4 @@
-use Rattle.std.proofs.Common.{◌≡◌, ◌-◌, length, refl, arith, length-set, rules}
+use Rattle.std.proofs.Common.{◌≡◌, ◌-◌, length}
 use Rattle.check_library.proofs.rise.Given as goal
 
 abbrev pub invariant-loop-k : goal.invariant-loop-k

@@ -1,8 +1,5 @@
 -- The measure is what is left of the bytes.
-use borrow.Author.Rules.{rules}
 use native.Mathlib.Omega.{arith}
-use Prim.Native.Nat.{◌-◌}
-use lib.ListN.{length}
 use Rattle.check_runs.proofs.print_bytes.Goals as goal
 
 pub loop-i-init : goal.loop-i-init

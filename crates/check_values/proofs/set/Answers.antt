@@ -1,9 +1,5 @@
 -- The measure is what is left of the list.
-use borrow.Author.Rules.{rules}
 use native.Mathlib.Omega.{arith}
-use Prim.Native.Nat.{◌-◌}
-use mathlib.Core.Path.{◌≡◌}
-use lib.ListN.{length}
 use Rattle.check_values.proofs.set.Goals as goal
 
 pub loop-i-init : goal.loop-i-init

@@ -1,5 +1,5 @@
 -- `check_words::read` is safe and ends: the measure is what is left of the words.
-use Rattle.std.proofs.Common.{◌-◌, arith, rules}
+use Rattle.std.proofs.Common.{arith}
 use Rattle.check_words.proofs.read.Goals as goal
 
 pub loop-bits-init : goal.loop-bits-init

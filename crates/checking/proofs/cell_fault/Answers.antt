@@ -3,7 +3,6 @@ use mathlib.Core.Bool.{Bool, not}
 use mathlib.Core.List.{[]}
 use mathlib.Core.Path.{sym, ◌∙◌, ap}
 use native.Mathlib.Omega.{arith}
-use borrow.Author.Rules.{rules}
 use Rattle.choice.specs.Choice.{pick}
 use Rattle.machine.specs.Step.{word_count}
 use Rattle.callers.proofs.Points.{point_small, point_room}

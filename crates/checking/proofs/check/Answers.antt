@@ -1,6 +1,5 @@
 -- `checking::check` meets its contract. Assumes nothing.
 use mathlib.Core.Path.{◌∙◌, ap}
-use borrow.Author.Rules.{rules}
 use Rattle.admission.proofs.Opening.{opened}
 use Rattle.checking.specs.Check.{answering}
 use Rattle.checking.proofs.Judging.{check_refused, check_judged}

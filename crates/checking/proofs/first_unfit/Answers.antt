@@ -1,9 +1,7 @@
 -- `checking::first_unfit` meets its contract. The invariant: every record before this one has the layout. Assumes nothing.
 use mathlib.Core.Path.{sym}
-use Prim.Native.Nat.{◌-◌}
 use native.Mathlib.Omega.{arith}
-use borrow.Author.Rules.{rules}
-use Rattle.transfer.proofs.First.{NoneBefore, none_before, none_yet, first_here, first_none}
+use Rattle.transfer.proofs.First.{none_before, none_yet, first_here, first_none}
 use Rattle.checking.specs.Check.{layout_at}
 use Rattle.checking.proofs.Scanning.{fit, unfit}
 use mathlib.Core.Path.{ap}

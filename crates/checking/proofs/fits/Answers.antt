@@ -1,6 +1,5 @@
 -- `checking::fits` meets its contract. Assumes nothing.
 use mathlib.Core.Path.{◌∙◌}
-use borrow.Author.Rules.{rules}
 use Rattle.checking.proofs.Scanning.{part_fits}
 use Rattle.checking.proofs.fits.Goals as goal
 

@@ -1,6 +1,5 @@
 -- `checking::judge` meets its contract. Assumes nothing.
 use native.Mathlib.Omega.{arith}
-use borrow.Author.Rules.{rules}
 use Rattle.emulator.proofs.Door.{image_some}
 use Rattle.checking.proofs.Judging.{judged_42, all_laid, judged_start, judged_cells}
 use mathlib.Core.Path.{ap}

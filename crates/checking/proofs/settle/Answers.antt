@@ -1,11 +1,8 @@
 -- `checking::settle` meets its contract. The invariant: no cell before this one fails. Assumes nothing.
 use mathlib.Core.Path.{sym, ◌∙◌, subst⁻¹}
-use Prim.Native.Nat.{◌-◌, ◌*◌, ◌<◌}
 use native.Mathlib.Omega.{arith}
 use lib.Arith.{digits_lt}
-use borrow.Author.Rules.{rules}
 use Rattle.machine.specs.Step.{word_count}
-use Rattle.facts.specs.Record.{depths}
 use Rattle.transfer.specs.Passes.{point_at}
 use Rattle.transfer.proofs.First.{NoneBefore, none_yet}
 use Rattle.callers.proofs.Points.{next_address, next_depth, past_all}

@@ -1,6 +1,5 @@
 -- `checking::starts` meets its contract. Assumes nothing.
 use mathlib.Core.Path.{◌∙◌, ap}
-use borrow.Author.Rules.{rules}
 use Rattle.facts.specs.declared.Cell.{Cell}
 use Rattle.facts.specs.Record.{reset_cell, holds_cell}
 use Rattle.checking.proofs.starts.Goals as goal

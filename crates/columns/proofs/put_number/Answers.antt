@@ -1,5 +1,4 @@
 -- `columns::put_number` meets its contract. Assumes nothing.
-use borrow.Author.Rules.{rules}
 use Rattle.text.proofs.Writing.{behind}
 use Rattle.columns.proofs.put_number.Goals as goal
 

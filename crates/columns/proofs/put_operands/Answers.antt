@@ -1,8 +1,7 @@
 -- `columns::put_operands` meets its contract: the operands there are the first ones of the layout. Assumes nothing.
 use mathlib.Core.Path.{subst}
-use Prim.Native.Nat.{ℕ, ◌-◌, ◌≤◌}
+use Prim.Native.Nat.{ℕ}
 use native.Mathlib.Omega.{arith}
-use borrow.Author.Rules.{rules}
 use Rattle.text.specs.Parts.{Written}
 use Rattle.text.proofs.Writing.{behind, the_same, nothing_written}
 use Rattle.mnemonics.specs.Parts.{operands_below}

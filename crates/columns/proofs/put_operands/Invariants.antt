@@ -1,12 +1,7 @@
-use mathlib.Core.Path.{subst}
-use Prim.Native.Nat.{ℕ, ◌-◌, ◌≤◌}
-use native.Mathlib.Omega.{arith}
-use borrow.Author.Rules.{rules}
+use Prim.Native.Nat.{◌-◌, ◌≤◌}
 use Rattle.text.specs.Parts.{Written}
-use Rattle.text.proofs.Writing.{behind, the_same, nothing_written}
 use Rattle.mnemonics.specs.Parts.{operands_below}
 use Rattle.columns.specs.Parts.{spaced_text}
-use Rattle.columns.proofs.Laws.{operand_more, next_fits}
 use Rattle.columns.proofs.put_operands.Given as goal
 
 abbrev pub invariant-loop-k : goal.invariant-loop-k

@@ -1,7 +1,6 @@
 -- `columns::put_word` meets its contract: every layout fits. Assumes nothing.
 use mathlib.Core.Path.{ap}
 use native.Mathlib.Omega.{arith}
-use borrow.Author.Rules.{rules}
 use lib.ListN.{length}
 use Rattle.text.proofs.Writing.{the_same}
 use Rattle.columns.specs.Parts.{spaced_text}

@@ -1,7 +1,6 @@
 use native.Mathlib.Omega.{arith}
 use mathlib.Core.Path.{◌∙◌}
 use Rattle.control.proofs.Direct.{called, full}
-use borrow.Author.Rules.{rules}
 use Rattle.control.proofs.call.Goals as goal
 
 pub returns-then-depth-eq-PLACES : goal.returns-then-depth-eq-PLACES

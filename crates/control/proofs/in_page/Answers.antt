@@ -1,4 +1,3 @@
-use borrow.Author.Rules.{rules}
 use Rattle.control.proofs.in_page.Goals as goal
 
 pub returns-then-page-eq-LONG_PAGE : goal.returns-then-page-eq-LONG_PAGE

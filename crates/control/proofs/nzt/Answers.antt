@@ -1,9 +1,7 @@
 use mathlib.Core.Path.{◌∙◌, sym}
 use mathlib.Core.List.{[], ◌∷◌}
-use borrow.Author.Tests.{not-true, not-false}
 use Rattle.machine.specs.Shape.{source_of}
 use Rattle.control.proofs.Direct.{unread_branch, branch_zero, branch_taken}
-use borrow.Author.Rules.{rules}
 use Rattle.control.proofs.nzt.Goals as goal
 
 pub returns-then-not-may_read : goal.returns-then-not-may_read

@@ -1,7 +1,6 @@
 use native.Mathlib.Omega.{arith}
 use mathlib.Core.Path.{◌∙◌}
 use Rattle.control.proofs.Direct.{returned, empty}
-use borrow.Author.Rules.{rules}
 use Rattle.control.proofs.ret.Goals as goal
 
 pub returns-then-depth-eq0 : goal.returns-then-depth-eq0

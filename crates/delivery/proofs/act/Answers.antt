@@ -1,12 +1,10 @@
 -- `delivery::act` meets its contract. Assumes nothing.
 use mathlib.Core.Path.{◌∙◌, sym, ap}
 use mathlib.Core.List.{[], ◌∷◌}
-use borrow.Author.Tests.{not-true, not-false}
 use Rattle.machine.specs.Shape.{target_of}
 use Rattle.machine.specs.Parts.{masked_into, delivery_source}
 use Rattle.machine.proofs.Masks.{taken_value}
 use Rattle.delivery.proofs.Outcomes.{read_then, unreadable}
-use borrow.Author.Rules.{rules}
 use Rattle.delivery.proofs.act.Goals as goal
 
 pub returns-then-not-may_take : goal.returns-then-not-may_take

@@ -1,6 +1,5 @@
 -- `delivery::argument` meets its contract. Assumes nothing.
 use borrow.Author.Tests.{eq-eqb, ne_eqb}
-use borrow.Author.Rules.{rules}
 use Rattle.delivery.proofs.argument.Goals as goal
 
 pub returns-then-kind-eq1 : goal.returns-then-kind-eq1

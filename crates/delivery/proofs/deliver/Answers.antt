@@ -1,6 +1,5 @@
 use borrow.Author.Tests.{lt-leb, le-leb}
 use Rattle.machine.proofs.Masks.{unmasked}
-use borrow.Author.Rules.{rules}
 use Rattle.delivery.proofs.deliver.Goals as goal
 
 pub returns-then-d-lt-FIRST_BANK : goal.returns-then-d-lt-FIRST_BANK

@@ -1,7 +1,6 @@
 -- `delivery::may_take` meets its contract. Assumes nothing.
 use mathlib.Core.Path.{refl}
 use borrow.Author.Tests.{eq-eqb, ne_eqb}
-use borrow.Author.Rules.{rules}
 use Rattle.delivery.proofs.may_take.Goals as goal
 
 pub returns-then-kind-eq1 : goal.returns-then-kind-eq1

@@ -1,6 +1,5 @@
 use borrow.Author.Tests.{eq-eqb, ne_eqb}
 use Rattle.machine.specs.Step.{with_overflow}
-use borrow.Author.Rules.{rules}
 use Rattle.delivery.proofs.set_overflow.Goals as goal
 
 pub returns-then-op-eq1 : goal.returns-then-op-eq1

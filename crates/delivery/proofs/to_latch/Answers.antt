@@ -1,11 +1,8 @@
 use Prim.Native.Nat.{ℕ, ◌%◌, ◌/◌}
 use mathlib.Core.Path.{◌∙◌, ap}
-use borrow.Author.Tests.{not-true, not-false}
-use Rattle.map.specs.Map.{writable}
 use Rattle.machine.specs.Shape.{latch}
 use Rattle.machine.specs.Parts.{whole, delivered}
 use Rattle.delivery.proofs.Outcomes.{to_bank, unwritable}
-use borrow.Author.Rules.{rules}
 use Rattle.delivery.proofs.to_latch.Goals as goal
 
 pub returns-then-not-writable : goal.returns-then-not-writable

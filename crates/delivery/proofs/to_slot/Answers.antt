@@ -1,9 +1,6 @@
 use mathlib.Core.Path.{◌∙◌}
 use native.Mathlib.Omega.{arith}
-use borrow.Author.Tests.{not-true, not-false}
-use Rattle.map.specs.Map.{listed}
 use Rattle.delivery.proofs.Outcomes.{to_register, to_address, unlisted}
-use borrow.Author.Rules.{rules}
 use Rattle.delivery.proofs.to_slot.Goals as goal
 
 pub returns-then-k-lt-ADDRESS : goal.returns-then-k-lt-ADDRESS

@@ -1,10 +1,6 @@
 -- `digest::add` meets its contract: going on over the bytes left gives the digest of all. Assumes nothing.
-use Prim.Native.Nat.{◌-◌}
-use mathlib.Core.Path.{◌≡◌, refl}
+use mathlib.Core.Path.{refl}
 use native.Mathlib.Omega.{arith}
-use borrow.Author.Rules.{rules}
-use lib.ListN.{length, drop}
-use Rattle.digest.specs.Digest.{digest_of}
 use Rattle.digest.proofs.Laws.{digest_turn, digest_end}
 use Rattle.digest.proofs.add.Goals as goal
 

@@ -1,10 +1,7 @@
 use Prim.Native.Nat.{◌-◌}
-use mathlib.Core.Path.{◌≡◌, refl}
-use native.Mathlib.Omega.{arith}
-use borrow.Author.Rules.{rules}
+use mathlib.Core.Path.{◌≡◌}
 use lib.ListN.{length, drop}
 use Rattle.digest.specs.Digest.{digest_of}
-use Rattle.digest.proofs.Laws.{digest_turn, digest_end}
 use Rattle.digest.proofs.add.Given as goal
 
 abbrev pub invariant-loop-i : goal.invariant-loop-i

@@ -1,12 +1,8 @@
 -- `digest::generate` meets its contract: the bytes there and those left are the generator's. Assumes nothing.
-use Prim.Native.Nat.{◌-◌, ◌<◌}
-use mathlib.Core.Path.{◌≡◌, refl}
-use mathlib.Core.List.{◌++◌}
+use mathlib.Core.Path.{refl}
 use native.Mathlib.Nat.{sub-zero}
 use native.Mathlib.Omega.{arith}
-use borrow.Author.Rules.{rules}
-use lib.ListN.{length, take, length-set}
-use Rattle.digest.specs.Digest.{generated}
+use lib.ListN.{length-set}
 use Rattle.digest.proofs.Laws.{generated_turn, generated_end}
 use Rattle.digest.proofs.generate.Goals as goal
 

@@ -1,12 +1,8 @@
 use Prim.Native.Nat.{◌-◌, ◌<◌}
-use mathlib.Core.Path.{◌≡◌, refl}
+use mathlib.Core.Path.{◌≡◌}
 use mathlib.Core.List.{◌++◌}
-use native.Mathlib.Nat.{sub-zero}
-use native.Mathlib.Omega.{arith}
-use borrow.Author.Rules.{rules}
-use lib.ListN.{length, take, length-set}
+use lib.ListN.{length, take}
 use Rattle.digest.specs.Digest.{generated}
-use Rattle.digest.proofs.Laws.{generated_turn, generated_end}
 use Rattle.digest.proofs.generate.Given as goal
 
 abbrev pub invariant-loop-i : goal.invariant-loop-i

@@ -1,12 +1,8 @@
 -- `digest::repeat` meets its contract: the bytes there and those left are the word's two in turn. Assumes nothing.
-use Prim.Native.Nat.{◌-◌}
-use mathlib.Core.Path.{◌≡◌, refl}
-use mathlib.Core.List.{◌++◌}
+use mathlib.Core.Path.{refl}
 use native.Mathlib.Nat.{sub-zero}
 use native.Mathlib.Omega.{arith}
-use borrow.Author.Rules.{rules}
-use lib.ListN.{length, take, length-set}
-use Rattle.digest.specs.Digest.{in_turn}
+use lib.ListN.{length-set}
 use Rattle.digest.proofs.Laws.{in_turn_turn, in_turn_end}
 use Rattle.digest.proofs.repeat.Goals as goal
 

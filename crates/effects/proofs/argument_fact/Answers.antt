@@ -5,7 +5,6 @@ use Rattle.choice.specs.Choice.{pick}
 use Rattle.machine.specs.Parts.{masked_into}
 use Rattle.facts.specs.Facts.{unknown, is_known}
 use Rattle.effects.proofs.Reading.{masked_fact}
-use borrow.Author.Rules.{rules}
 use Rattle.effects.proofs.argument_fact.Goals as goal
 
 pub returns : goal.returns

@@ -1,7 +1,6 @@
 -- `effects::fact_of` meets its contract. Assumes nothing.
 use native.Mathlib.Omega.{arith}
 use borrow.Author.Tests.{le-leb}
-use borrow.Author.Rules.{rules}
 use Rattle.effects.proofs.Reading.{source_eq}
 use Rattle.cells.proofs.Laws.{fact_bound}
 use Rattle.effects.proofs.fact_of.Goals as goal

@@ -1,7 +1,6 @@
 -- `effects::facts_after` meets its contract. Assumes nothing.
 use native.Mathlib.Omega.{arith}
 use lib.Dec.{lit<}
-use borrow.Author.Rules.{rules}
 use Rattle.effects.proofs.Reading.{slot_eq, latch_eq}
 use Rattle.cells.proofs.Laws.{fact_bound}
 use Rattle.effects.proofs.facts_after.Goals as goal

@@ -2,7 +2,6 @@
 use mathlib.Core.Path.{refl}
 use native.Mathlib.Omega.{arith}
 use borrow.Author.Tests.{eq-eqb, ne_eqb}
-use borrow.Author.Rules.{rules}
 use Rattle.effects.proofs.taken_fact.Goals as goal
 
 pub returns-then-kind-eq1 : goal.returns-then-kind-eq1

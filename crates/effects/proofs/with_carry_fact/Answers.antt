@@ -1,6 +1,5 @@
 -- `effects::with_carry_fact` meets its contract. Assumes nothing.
 use borrow.Author.Tests.{eq-eqb, ne_eqb}
-use borrow.Author.Rules.{rules}
 use Rattle.facts.specs.Facts.{with_carry_fact}
 use Rattle.effects.proofs.with_carry_fact.Goals as goal
 

@@ -2,11 +2,11 @@
 -- Assumes nothing.
 use borrow.Author.Rules.{rules}
 use native.Mathlib.Omega.{arith}
-use Prim.Native.Nat.{◌-◌, ◌*◌}
+use Prim.Native.Nat.{◌*◌}
 use lib.ListN.{drop, length-drop}
 use Rattle.machine.specs.Parts.{whole}
-use Rattle.emulator.specs.Run.{pair_length, pair_count}
-use Rattle.emulator.proofs.Going.{Going, begins, ends, ran_none, room_second, room_first, event_fits, as_long, again, stops}
+use Rattle.emulator.specs.Run.{pair_length}
+use Rattle.emulator.proofs.Going.{begins, ends, ran_none, room_second, room_first, event_fits, as_long, again, stops}
 use Rattle.emulator.proofs.steps.Goals as goal
 
 pub loop-count-init : goal.loop-count-init

@@ -1,10 +1,7 @@
-use borrow.Author.Rules.{rules}
-use native.Mathlib.Omega.{arith}
-use Prim.Native.Nat.{◌-◌, ◌*◌}
-use lib.ListN.{drop, length-drop}
+use Prim.Native.Nat.{◌-◌}
 use Rattle.machine.specs.Parts.{whole}
-use Rattle.emulator.specs.Run.{pair_length, pair_count}
-use Rattle.emulator.proofs.Going.{Going, begins, ends, ran_none, room_second, room_first, event_fits, as_long, again, stops}
+use Rattle.emulator.specs.Run.{pair_count}
+use Rattle.emulator.proofs.Going.{Going}
 use Rattle.emulator.proofs.steps.Given as goal
 
 abbrev pub invariant-loop-count : goal.invariant-loop-count

@@ -4,7 +4,6 @@ use mathlib.Core.List.{◌++◌}
 use Prim.Native.Nat.{ℕ}
 use Rattle.state.specs.State.{two_bytes}
 use Rattle.emulator.specs.Run.{written_over}
-use borrow.Author.Rules.{rules}
 use Rattle.emulator.proofs.write_addresses.Goals as goal
 
 pub returns : goal.returns

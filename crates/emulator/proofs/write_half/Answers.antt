@@ -2,7 +2,6 @@
 use native.Mathlib.Omega.{arith}
 use lib.ListN.{length-set}
 use Rattle.emulator.proofs.Written.{four_stores}
-use borrow.Author.Rules.{rules}
 use Rattle.emulator.proofs.write_half.Goals as goal
 
 pub bounds-part-1 : goal.bounds-part-1

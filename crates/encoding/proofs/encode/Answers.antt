@@ -1,5 +1,4 @@
 -- Each arm: the word is this case, and the group's function writes what the definition writes of it.
-use borrow.Author.Rules.{rules}
 use mathlib.Core.Path.{refl}
 use native.Mathlib.Omega.{arith}
 use lib.Dec.{leb}

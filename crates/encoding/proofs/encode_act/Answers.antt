@@ -1,5 +1,4 @@
 -- Each return: the test that led there; a test that holds puts the fields in range.
-use borrow.Author.Rules.{rules}
 use Rattle.word.proofs.Laws.{act_in_range}
 use Rattle.encoding.proofs.encode_act.Goals as goal
 

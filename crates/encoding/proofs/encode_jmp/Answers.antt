@@ -1,5 +1,4 @@
 -- Each return: the test that led there.
-use borrow.Author.Rules.{rules}
 use borrow.Author.Tests.{lt-ltb, le-ltb}
 use Rattle.encoding.proofs.encode_jmp.Goals as goal
 

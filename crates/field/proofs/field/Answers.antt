@@ -1,5 +1,5 @@
 -- `field::field` meets its contract. Assumes nothing.
-use Rattle.std.proofs.Common.{ap, ◌∙◌, rules}
+use Rattle.std.proofs.Common.{ap, ◌∙◌}
 use Rattle.field.specs.Field.{low_bits, field_of}
 use Rattle.field.proofs.field.Goals as goal
 

@@ -1,5 +1,5 @@
 -- `field::low` meets its contract. Assumes nothing.
-use Rattle.std.proofs.Common.{ap, ◌∙◌, rules}
+use Rattle.std.proofs.Common.{ap, ◌∙◌}
 use lib.Bits.{bit_and, and_mask}
 use Rattle.field.specs.Field.{width_of, low_bits}
 use Rattle.field.proofs.low.Goals as goal

@@ -1,11 +1,6 @@
 -- `filling::clear` meets its contract. The invariant: the bytes passed are zero. Assumes nothing.
-use mathlib.Core.Path.{◌≡◌}
-use mathlib.Core.List.{◌++◌}
-use Prim.Native.Nat.{◌-◌, ◌≤◌}
 use native.Mathlib.Omega.{arith}
-use lib.ListN.{length, drop, replicate}
 use borrow.Author.Fill.{fill_none}
-use borrow.Author.Rules.{rules}
 use Rattle.filling.proofs.Clearing.{cleared_length, cleared_more, cleared_all}
 use Rattle.filling.proofs.clear.Goals as goal
 

@@ -1,11 +1,7 @@
 use mathlib.Core.Path.{◌≡◌}
 use mathlib.Core.List.{◌++◌}
 use Prim.Native.Nat.{◌-◌, ◌≤◌}
-use native.Mathlib.Omega.{arith}
 use lib.ListN.{length, drop, replicate}
-use borrow.Author.Fill.{fill_none}
-use borrow.Author.Rules.{rules}
-use Rattle.filling.proofs.Clearing.{cleared_length, cleared_more, cleared_all}
 use Rattle.filling.proofs.clear.Given as goal
 
 abbrev pub invariant-loop-i : goal.invariant-loop-i

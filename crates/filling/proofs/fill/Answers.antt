@@ -3,7 +3,6 @@ use mathlib.Core.Path.{◌∙◌, ap}
 use Prim.Native.Nat.{ℕ}
 use native.Mathlib.Omega.{arith}
 use lib.ListN.{replicate}
-use borrow.Author.Rules.{rules}
 use Rattle.transfer.proofs.TableLaws.{reset_fine}
 use Rattle.filling.proofs.Starting.{ready, started, begun}
 use Rattle.filling.proofs.fill.Goals as goal

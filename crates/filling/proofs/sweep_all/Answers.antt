@@ -1,12 +1,7 @@
 -- `filling::sweep_all` meets its contract. The invariant: every sweep so far changed the table, and they are counted. The
 -- measure is the sum of the cells' weights. Assumes nothing.
 use native.Mathlib.Omega.{arith}
-use borrow.Author.Rules.{rules}
-use Rattle.flow.specs.Flow.{sum_weights}
-use Rattle.transfer.specs.Passes.{table_space}
-use Rattle.marks.specs.Marks.{Agenda}
-use Rattle.passing.specs.Passing.{Laid}
-use Rattle.filling.proofs.Filling.{Way, way_begins, way_next, way_less, way_ends, way_bound}
+use Rattle.filling.proofs.Filling.{way_begins, way_next, way_less, way_ends, way_bound}
 use Rattle.filling.proofs.sweep_all.Goals as goal
 
 pub loop-count-init : goal.loop-count-init

@@ -1,10 +1,8 @@
-use native.Mathlib.Omega.{arith}
-use borrow.Author.Rules.{rules}
 use Rattle.flow.specs.Flow.{sum_weights}
 use Rattle.transfer.specs.Passes.{table_space}
 use Rattle.marks.specs.Marks.{Agenda}
 use Rattle.passing.specs.Passing.{Laid}
-use Rattle.filling.proofs.Filling.{Way, way_begins, way_next, way_less, way_ends, way_bound}
+use Rattle.filling.proofs.Filling.{Way}
 use Rattle.filling.proofs.sweep_all.Given as goal
 
 abbrev pub invariant-loop-count : goal.invariant-loop-count

@@ -2,7 +2,6 @@
 use Rattle.machine.specs.Shape.{target_of}
 use Rattle.machine.specs.Parts.{delivery_source}
 use Rattle.findings.proofs.Asking.{act_stop, act_on}
-use borrow.Author.Rules.{rules}
 use Rattle.findings.proofs.act_finding.Goals as goal
 
 pub returns-then-f-ne0 : goal.returns-then-f-ne0

@@ -1,7 +1,6 @@
 -- `findings::argument_finding` meets its contract. Assumes nothing.
 use borrow.Author.Tests.{eq-eqb, ne_eqb}
 use Rattle.findings.proofs.Telling.{tells_none}
-use borrow.Author.Rules.{rules}
 use Rattle.findings.proofs.argument_finding.Goals as goal
 
 pub returns-then-kind-eq1 : goal.returns-then-kind-eq1

@@ -7,7 +7,6 @@ use Rattle.machine.specs.Shape.{source_of, branch}
 use Rattle.machine.specs.Step.{word_count}
 use Rattle.callers.specs.Callers.{span_is}
 use Rattle.findings.proofs.Asking.{go_stop, go_on, branch_inside, branch_outside}
-use borrow.Author.Rules.{rules}
 use Rattle.findings.proofs.branch_finding.Goals as goal
 
 pub returns-then-f-ne0 : goal.returns-then-f-ne0

@@ -5,7 +5,6 @@ use Prim.Native.Nat.{◌+◌, ◌*◌}
 use lib.Dec.{ltb}
 use Rattle.machine.specs.Step.{word_count}
 use Rattle.findings.proofs.Asking.{call_full, call_unknown, call_inside, call_outside}
-use borrow.Author.Rules.{rules}
 use Rattle.findings.proofs.call_finding.Goals as goal
 
 pub returns-then-depth-ge-PLACES : goal.returns-then-depth-ge-PLACES

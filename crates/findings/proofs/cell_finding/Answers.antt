@@ -10,7 +10,6 @@ use Rattle.processor.proofs.Forming.{read_shape}
 use Rattle.callers.proofs.Points.{point_small, point_room}
 use Rattle.callers.proofs.Sites.{site_bounded}
 use Rattle.findings.proofs.Passing.{asked_below_lem, cell_unreached, cell_told, cell_invalid, cell_stop, cell_on}
-use borrow.Author.Rules.{rules}
 use Rattle.findings.proofs.cell_finding.Goals as goal
 
 pub overflow_mul-depth : goal.overflow_mul-depth

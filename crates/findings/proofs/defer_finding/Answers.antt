@@ -3,7 +3,6 @@ use mathlib.Core.Path.{subst}
 use Rattle.forms.specs.Forms.{shape_is, FormFits}
 use Rattle.callers.proofs.Words.{is_no_defer}
 use Rattle.findings.proofs.Words.{retold_defer, no_defer}
-use borrow.Author.Rules.{rules}
 use Rattle.findings.proofs.defer_finding.Goals as goal
 
 pub xec_finding-requires : goal.xec_finding-requires

@@ -3,7 +3,6 @@ use native.Mathlib.Omega.{arith}
 use lib.Dec.{lit<}
 use Rattle.cells.proofs.Laws.{fact_bound}
 use Rattle.findings.proofs.Asking.{delivered_stop, delivered_on}
-use borrow.Author.Rules.{rules}
 use Rattle.findings.proofs.deliver_finding.Goals as goal
 
 pub result_fact-y-requires : goal.result_fact-y-requires

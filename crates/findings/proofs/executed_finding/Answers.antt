@@ -6,7 +6,6 @@ use Rattle.processor.specs.Fetching.{Fetches}
 use Rattle.machine.proofs.Fetching.{no_shape}
 use Rattle.processor.proofs.Forming.{read_shape}
 use Rattle.findings.proofs.Passing.{executed_outside, executed_invalid, executed_defer, executed_word}
-use borrow.Author.Rules.{rules}
 use Rattle.findings.proofs.executed_finding.Goals as goal
 
 pub returns-then-image-a : goal.returns-then-image-a

@@ -1,6 +1,5 @@
 -- `findings::is_xec` meets its contract. Assumes nothing.
 use Rattle.callers.proofs.Words.{is_no_defer}
-use borrow.Author.Rules.{rules}
 use Rattle.findings.proofs.is_xec.Goals as goal
 
 pub returns : goal.returns

@@ -1,8 +1,6 @@
 -- `findings::read_finding` meets its contract. Assumes nothing.
 use native.Mathlib.Omega.{arith}
-use borrow.Author.Tests.{not-true, not-false}
 use Rattle.findings.proofs.Asking.{address_fits, read_register, read_unknown, read_refused, read_fine}
-use borrow.Author.Rules.{rules}
 use Rattle.findings.proofs.read_finding.Goals as goal
 
 pub returns-then-s-lt-FIRST_BANK : goal.returns-then-s-lt-FIRST_BANK

@@ -2,7 +2,6 @@
 use Rattle.machine.specs.Step.{word_count}
 use Rattle.transfer.specs.Passes.{is_call_site}
 use Rattle.findings.proofs.Passing.{sites_inside}
-use borrow.Author.Rules.{rules}
 use Rattle.findings.proofs.returns_inside.Goals as goal
 
 pub returns : goal.returns

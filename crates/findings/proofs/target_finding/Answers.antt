@@ -1,8 +1,6 @@
 -- `findings::target_finding` meets its contract. Assumes nothing.
 use native.Mathlib.Omega.{arith}
-use borrow.Author.Tests.{not-true, not-false}
 use Rattle.findings.proofs.Asking.{fact_fits, address_fits, target_register, target_unknown, target_unlisted, target_listed, write_unknown, write_refused, write_fine}
-use borrow.Author.Rules.{rules}
 use Rattle.findings.proofs.target_finding.Goals as goal
 
 pub returns-then-k-lt-ADDRESS : goal.returns-then-k-lt-ADDRESS

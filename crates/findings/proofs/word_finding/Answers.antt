@@ -8,7 +8,6 @@ use Rattle.forms.specs.Forms.{FormFits}
 use Rattle.findings.proofs.Asking.{read_only}
 use Rattle.findings.proofs.Telling.{tells_no}
 use Rattle.findings.proofs.Words.{retold}
-use borrow.Author.Rules.{rules}
 use Rattle.findings.proofs.word_finding.Goals as goal
 
 pub act_finding-requires : goal.act_finding-requires

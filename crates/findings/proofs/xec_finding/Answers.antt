@@ -1,12 +1,9 @@
 -- `findings::xec_finding` meets its contract. The invariant: the places before k have told nothing.
 -- Assumes nothing.
-use mathlib.Core.Logic.{⊎_elim}
-use Prim.Native.Nat.{◌-◌, ◌≤◌}
 use native.Mathlib.Omega.{arith}
 use Rattle.machine.specs.Shape.{source_of}
 use Rattle.callers.specs.Callers.{span_is}
-use Rattle.findings.proofs.Passing.{Going, begins, skips, goes_on_lem, stops, ends}
-use borrow.Author.Rules.{rules}
+use Rattle.findings.proofs.Passing.{begins, skips, goes_on_lem, stops, ends}
 use Rattle.findings.proofs.xec_finding.Goals as goal
 use Rattle.findings.proofs.xec_finding.Goals.{then-gives+else-f-ne0, else-gives}
 

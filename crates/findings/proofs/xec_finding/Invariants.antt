@@ -1,10 +1,6 @@
-use mathlib.Core.Logic.{⊎_elim}
 use Prim.Native.Nat.{◌-◌, ◌≤◌}
-use native.Mathlib.Omega.{arith}
 use Rattle.machine.specs.Shape.{source_of}
-use Rattle.callers.specs.Callers.{span_is}
-use Rattle.findings.proofs.Passing.{Going, begins, skips, goes_on_lem, stops, ends}
-use borrow.Author.Rules.{rules}
+use Rattle.findings.proofs.Passing.{Going}
 use Rattle.findings.proofs.xec_finding.Given as goal
 
 abbrev pub invariant-loop-k : goal.invariant-loop-k

@@ -1,8 +1,6 @@
 -- `foretell::foretell` meets its contract. Assumes nothing.
 use mathlib.Core.Path.{sym, ◌∙◌}
 use native.Mathlib.Omega.{arith}
-use borrow.Author.Rules.{rules}
-use borrow.Author.Tests.{not-true, not-false}
 use Rattle.emulator.proofs.Door.{image_words}
 use Rattle.foretell.proofs.Door.{refused_11, tells}
 use Rattle.foretell.proofs.foretell.Goals as goal

@@ -4,7 +4,6 @@ use native.Mathlib.Omega.{arith}
 use Rattle.forms.specs.declared.Form.TheVariants.{Jump, Call, Return, Invalid}
 use Rattle.machine.specs.Shape.{shape_of}
 use Rattle.forms.proofs.Forming.{formed}
-use borrow.Author.Rules.{rules}
 use Rattle.forms.proofs.form_of.Goals as goal
 
 pub returns-in-Move : goal.returns-in-Move

@@ -1,5 +1,4 @@
 -- `line::line` meets its contract. Assumes nothing.
-use borrow.Author.Rules.{rules}
 use native.Mathlib.Omega.{arith}
 use Rattle.line.proofs.Input.{whole_line}
 use Rattle.line.proofs.line.Goals as goal

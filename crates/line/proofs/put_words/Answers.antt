@@ -2,7 +2,6 @@
 use borrow.Author.Rules.{rules}
 use mathlib.Core.Path.{sym, ◌∙◌}
 use native.Mathlib.Omega.{arith}
-use borrow.Author.Tests.{not-true, not-false}
 use Rattle.text.proofs.Writing.{the_same}
 use Rattle.line.proofs.Input.{map_long, rest_most, refused_12, refused_18, refused_11, let_in_lem}
 use Rattle.line.proofs.put_words.Goals as goal

@@ -1,6 +1,5 @@
 -- What is written is as long as `listing::print` says.
 use mathlib.Core.Path.{sym}
-use borrow.Author.Rules.{rules}
 use lib.Seq.{length-take-le}
 use Rattle.list.proofs.main.Goals as goal
 

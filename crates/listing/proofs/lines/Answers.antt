@@ -1,11 +1,6 @@
 -- `listing::lines` meets its contract: the lines there are those of the addresses passed. Assumes nothing.
-use mathlib.Core.Path.{◌≡◌, refl, ◌∙◌}
-use Prim.Native.Nat.{◌*◌, ◌-◌, ◌≤◌}
+use mathlib.Core.Path.{refl, ◌∙◌}
 use native.Mathlib.Omega.{arith}
-use borrow.Author.Rules.{rules}
-use lib.ListN.{length, take}
-use Rattle.machine.specs.Step.{word_count}
-use Rattle.columns.specs.Line.{line_length}
 use Rattle.listing.specs.Listing.{lines_below}
 use Rattle.listing.proofs.Laws.{line_more, lines_all}
 use Rattle.listing.proofs.lines.Goals as goal

@@ -1,12 +1,9 @@
-use mathlib.Core.Path.{◌≡◌, refl, ◌∙◌}
+use mathlib.Core.Path.{◌≡◌}
 use Prim.Native.Nat.{◌*◌, ◌-◌, ◌≤◌}
-use native.Mathlib.Omega.{arith}
-use borrow.Author.Rules.{rules}
 use lib.ListN.{length, take}
 use Rattle.machine.specs.Step.{word_count}
 use Rattle.columns.specs.Line.{line_length}
 use Rattle.listing.specs.Listing.{lines_below}
-use Rattle.listing.proofs.Laws.{line_more, lines_all}
 use Rattle.listing.proofs.lines.Given as goal
 
 abbrev pub invariant-loop-a : goal.invariant-loop-a

@@ -1,8 +1,6 @@
 -- `listing::list` meets its contract: a law for each way out. Assumes nothing.
 use mathlib.Core.Path.{sym, ◌∙◌}
 use native.Mathlib.Omega.{arith}
-use borrow.Author.Rules.{rules}
-use borrow.Author.Tests.{not-true, not-false}
 use Rattle.emulator.proofs.Door.{image_words}
 use Rattle.listing.proofs.Laws.{refused_11, refused_41, let_in_lem}
 use Rattle.listing.proofs.list.Goals as goal

@@ -1,8 +1,6 @@
 -- `listing::print` meets its contract: a law for each way out. Assumes nothing.
 use mathlib.Core.Path.{sym, ◌∙◌}
 use native.Mathlib.Omega.{arith}
-use borrow.Author.Rules.{rules}
-use borrow.Author.Tests.{not-true, not-false}
 use Rattle.emulator.proofs.Door.{image_words}
 use Rattle.text.proofs.Writing.{behind}
 use Rattle.listing.proofs.Laws.{printed_refused, page_part, page_long, page_printed}

@@ -1,5 +1,4 @@
 -- `map::count` meets its contract. Assumes nothing.
-use borrow.Author.Rules.{rules}
 use Rattle.map.proofs.Laws.{counted_refused, counted_sets, with_numbers}
 use Rattle.map.proofs.count.Goals as goal
 

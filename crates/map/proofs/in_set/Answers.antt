@@ -1,7 +1,6 @@
 -- `map::in_set` meets its contract: the last bit of the shifted byte is its remainder by 2. Assumes nothing.
 use mathlib.Core.Path.{ap}
 use Prim.Native.Nat.{ℕ, ◌+◌, ◌*◌, ◌/◌, ◌%◌, ◌^◌}
-use borrow.Author.Rules.{rules}
 use lib.Bits.{and_mask}
 use lib.Dec.{eqb}
 use lib.ListN.{get_or}

@@ -1,7 +1,6 @@
 -- `map::listed` meets its contract. Assumes nothing.
 use mathlib.Core.Path.{ap₂}
 use mathlib.Core.Bool.{◌||◌}
-use borrow.Author.Rules.{rules}
 use Rattle.map.proofs.listed.Goals as goal
 
 pub returns : goal.returns

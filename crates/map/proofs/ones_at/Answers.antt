@@ -1,7 +1,6 @@
 -- `map::ones_at` meets its contract: the ones of the word are those of its bytes. Assumes nothing.
 use mathlib.Core.Path.{ap, ◌∙◌}
 use native.Mathlib.Omega.{arith}
-use borrow.Author.Rules.{rules}
 use lib.Count.{ones}
 use Rattle.map.proofs.Ones.{ones_together, ones_from_le}
 use Rattle.map.proofs.ones_at.Goals as goal

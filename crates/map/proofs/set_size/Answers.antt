@@ -1,6 +1,5 @@
 -- `map::set_size` meets its contract: a set is four words. Assumes nothing.
 use native.Mathlib.Omega.{arith}
-use borrow.Author.Rules.{rules}
 use Rattle.map.proofs.Ones.{set_words}
 use Rattle.map.proofs.set_size.Goals as goal
 

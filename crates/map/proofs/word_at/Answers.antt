@@ -1,8 +1,7 @@
 -- `map::word_at` meets its contract: the word is the number of the bytes passed. Assumes nothing.
-use mathlib.Core.Path.{◌≡◌, refl, ap, ◌∙◌}
-use Prim.Native.Nat.{◌+◌, ◌-◌, ◌≤◌}
+use mathlib.Core.Path.{refl, ap, ◌∙◌}
+use Prim.Native.Nat.{◌+◌}
 use native.Mathlib.Omega.{arith}
-use borrow.Author.Rules.{rules}
 use Rattle.map.specs.Ones.{number_from}
 use Rattle.map.proofs.Ones.{byte_more}
 use Rattle.map.proofs.word_at.Goals as goal

@@ -1,6 +1,5 @@
 -- `marks::birth` meets its contract. Assumes nothing.
 use native.Mathlib.Omega.{arith}
-use borrow.Author.Rules.{rules}
 use Rattle.marks.proofs.Marking.{level_ends, birth_woken, birth_deep}
 use Rattle.marks.proofs.birth.Goals as goal
 

@@ -1,6 +1,5 @@
 -- `marks::note` meets its contract. Assumes nothing.
 use native.Mathlib.Omega.{arith}
-use borrow.Author.Rules.{rules}
 use Rattle.machine.specs.Step.{word_count}
 use Rattle.callers.proofs.Points.{point_small}
 use Rattle.marks.proofs.Marking.{marked_site, marked_plain, marked_birth}

@@ -1,7 +1,5 @@
 -- `mnemonics::mnemonic` meets its contract: a test for each way out. Assumes nothing.
 use mathlib.Core.Path.{sym, ap, ◌∙◌}
-use borrow.Author.Rules.{rules}
-use borrow.Author.Tests.{not-true, not-false}
 use Rattle.text.specs.Text.{filled}
 use Rattle.mnemonics.proofs.Laws.{name_invalid, name_call, name_ret, name_other}
 use Rattle.mnemonics.proofs.mnemonic.Goals as goal

@@ -4,8 +4,6 @@ use mathlib.Core.Bool.{◌||◌}
 use mathlib.Core.List.{List}
 use Prim.Native.Nat.{◌≤◌}
 use native.Mathlib.Omega.{arith}
-use borrow.Author.Rules.{rules}
-use borrow.Author.Tests.{not-true, not-false}
 use Rattle.mnemonics.specs.declared.Layout.{Layout}
 use Rattle.mnemonics.specs.Layout.{Operand}
 use Rattle.mnemonics.specs.Parts.{operands_below, operands_in}

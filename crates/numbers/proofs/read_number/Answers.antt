@@ -6,7 +6,6 @@ use native.Mathlib.Omega.{arith}
 use Rattle.word.specs.declared.Word.{Word}
 use Rattle.word.specs.Word.{ActInRange, RegisterInRange, BankInRange, InRange}
 use Rattle.numbers.specs.Words.{read_number}
-use borrow.Author.Rules.{rules}
 use Rattle.numbers.proofs.read_number.Goals as goal
 
 -- the word is this case, and this its number

@@ -2,7 +2,6 @@
 use mathlib.Core.Path.{refl}
 use borrow.Author.Tests.{eq-eqb, ne_eqb}
 use Rattle.numbers.specs.Words.{word_from}
-use borrow.Author.Rules.{rules}
 use Rattle.numbers.proofs.word_from.Goals as goal
 
 pub returns-then-op-eq0 : goal.returns-then-op-eq0

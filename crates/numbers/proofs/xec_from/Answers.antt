@@ -2,7 +2,6 @@
 use mathlib.Core.Path.{refl, sym, ◌∙◌}
 use borrow.Author.Tests.{eq-eqb, ne_eqb}
 use Rattle.numbers.specs.Words.{xec_from}
-use borrow.Author.Rules.{rules}
 use Rattle.numbers.proofs.xec_from.Goals as goal
 
 pub returns-then-is_bank : goal.returns-then-is_bank

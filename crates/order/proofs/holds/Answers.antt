@@ -1,5 +1,4 @@
 -- `order::holds` meets its contract. Assumes nothing.
-use borrow.Author.Rules.{rules}
 use Rattle.order.proofs.Order.{holds_nothing, holds_first, holds_facts}
 use Rattle.order.proofs.holds.Goals as goal
 

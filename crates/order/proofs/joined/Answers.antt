@@ -1,5 +1,4 @@
 -- `order::joined` meets its contract. Assumes nothing.
-use borrow.Author.Rules.{rules}
 use Rattle.order.proofs.Order.{join_nothing, join_first, join_both}
 use Rattle.order.proofs.joined.Goals as goal
 

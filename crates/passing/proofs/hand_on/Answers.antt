@@ -1,6 +1,5 @@
 -- `passing::hand_on` meets its contract. Assumes nothing.
 use native.Mathlib.Omega.{arith}
-use borrow.Author.Rules.{rules}
 use Rattle.passing.proofs.Passing.{small_depth}
 use Rattle.passing.proofs.Joining.{asked_room, table_laid, table_sited, handed_asked, handed_joined}
 use Rattle.passing.proofs.hand_on.Goals as goal

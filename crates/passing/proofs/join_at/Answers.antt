@@ -1,6 +1,5 @@
 -- `passing::join_at` meets its contract. Assumes nothing.
 use native.Mathlib.Omega.{arith}
-use borrow.Author.Rules.{rules}
 use Rattle.callers.proofs.Points.{point_inside}
 use Rattle.passing.proofs.Passing.{small_depth}
 use Rattle.passing.proofs.Joining.{joined_held, joined_same, joined_noted}

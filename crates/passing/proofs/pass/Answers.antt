@@ -1,6 +1,5 @@
 -- `passing::pass` meets its contract. Assumes nothing.
 use native.Mathlib.Omega.{arith}
-use borrow.Author.Rules.{rules}
 use Rattle.transfer.proofs.TableLaws.{reached_fine}
 use Rattle.passing.proofs.Passing.{passed_toward, passed_nowhere}
 use Rattle.passing.proofs.pass.Goals as goal

@@ -1,7 +1,6 @@
 -- `passing::pass_act` meets its contract. Assumes nothing.
 use mathlib.Core.Path.{sym, subst}
 use native.Mathlib.Omega.{arith}
-use borrow.Author.Rules.{rules}
 use Rattle.machine.specs.Shape.{target_of}
 use Rattle.machine.specs.Parts.{delivery_source}
 use Rattle.cells.specs.Cells.{Bounded}

@@ -1,5 +1,4 @@
 -- `passing::pass_branch` meets its contract. Assumes nothing.
-use borrow.Author.Rules.{rules}
 use Rattle.machine.specs.Shape.{source_of}
 use Rattle.passing.proofs.Passing.{still_ready}
 use Rattle.passing.proofs.Going.{branch_passed}

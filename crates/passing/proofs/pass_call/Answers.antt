@@ -1,12 +1,8 @@
 -- `passing::pass_call` meets its contract. The invariant: the first n values of AUX are passed on. Assumes nothing.
 use mathlib.Core.Path.{refl}
-use Prim.Native.Nat.{◌-◌, ◌≤◌}
 use native.Mathlib.Omega.{arith}
-use borrow.Author.Rules.{rules}
-use Rattle.machine.specs.Step.{word_count}
-use Rattle.passing.specs.Passing.{Passed}
 use Rattle.passing.proofs.Passing.{passed_size, passed_marks, still_ready}
-use Rattle.passing.proofs.Going.{called_to, call_begins, call_next, call_still, call_passed, call_none}
+use Rattle.passing.proofs.Going.{call_begins, call_next, call_still, call_passed, call_none}
 use Rattle.passing.proofs.pass_call.Goals as goal
 
 pub returns-then-depth-eq-PLACES : goal.returns-then-depth-eq-PLACES

@@ -1,11 +1,7 @@
-use mathlib.Core.Path.{refl}
 use Prim.Native.Nat.{◌-◌, ◌≤◌}
-use native.Mathlib.Omega.{arith}
-use borrow.Author.Rules.{rules}
 use Rattle.machine.specs.Step.{word_count}
 use Rattle.passing.specs.Passing.{Passed}
-use Rattle.passing.proofs.Passing.{passed_size, passed_marks, still_ready}
-use Rattle.passing.proofs.Going.{called_to, call_begins, call_next, call_still, call_passed, call_none}
+use Rattle.passing.proofs.Going.{called_to}
 use Rattle.passing.proofs.pass_call.Given as goal
 
 abbrev pub invariant-loop-n : goal.invariant-loop-n

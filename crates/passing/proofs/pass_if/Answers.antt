@@ -1,5 +1,4 @@
 -- `passing::pass_if` meets its contract. Assumes nothing.
-use borrow.Author.Rules.{rules}
 use Rattle.machine.specs.Step.{word_count}
 use Rattle.transfer.specs.Passes.{toward}
 use Rattle.passing.proofs.Passing.{passed_if, passed_not}

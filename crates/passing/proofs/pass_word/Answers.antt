@@ -1,6 +1,5 @@
 -- `passing::pass_word` meets its contract. Assumes nothing.
 use mathlib.Core.Path.{subst}
-use borrow.Author.Rules.{rules}
 use Rattle.forms.specs.Forms.{FormFits}
 use Rattle.transfer.specs.Passes.{word_passes}
 use Rattle.passing.proofs.Passing.{passed_none}

@@ -6,7 +6,6 @@ use Rattle.machine.specs.Step.{go_state}
 use Rattle.machine.specs.Parts.{outcome}
 use Rattle.forms.specs.Forms.{FormFits}
 use Rattle.processor.proofs.Forming.{retold}
-use borrow.Author.Rules.{rules}
 use Rattle.processor.proofs.execute.Goals as goal
 
 pub act-requires : goal.act-requires

@@ -1,6 +1,5 @@
 -- `processor::form_at` meets its contract. Assumes nothing.
 use Rattle.processor.proofs.Forming.{read_shape}
-use borrow.Author.Rules.{rules}
 use Rattle.processor.proofs.form_at.Goals as goal
 
 pub returns : goal.returns

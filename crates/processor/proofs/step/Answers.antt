@@ -10,7 +10,6 @@ use Rattle.forms.specs.Forms.{shape_is}
 use Rattle.processor.specs.Fetching.{Fetches}
 use Rattle.machine.proofs.Fetching.{pc_near, no_shape, outside, inside, nothing}
 use Rattle.processor.proofs.Forming.{read_in_range, read_shape}
-use borrow.Author.Rules.{rules}
 use Rattle.processor.proofs.step.Goals as goal
 
 pub returns-then-image-at : goal.returns-then-image-at

@@ -2,7 +2,6 @@
 use Prim.Native.Nat.{◌+◌, ◌*◌}
 use lib.ListN.{get_or}
 use Rattle.processor.proofs.Forming.{read_in_range}
-use borrow.Author.Rules.{rules}
 use Rattle.processor.proofs.word_at.Goals as goal
 
 pub returns : goal.returns

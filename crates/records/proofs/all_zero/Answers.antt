@@ -1,10 +1,6 @@
 -- `records::all_zero` meets its contract. The loop's invariant: what is left tells. Assumes nothing.
-use mathlib.Core.Path.{◌≡◌, refl}
-use Prim.Native.Nat.{◌≤◌, ◌-◌}
+use mathlib.Core.Path.{refl}
 use native.Mathlib.Omega.{arith}
-use lib.ListN.{length, drop}
-use borrow.Author.Rules.{rules}
-use Rattle.records.specs.Records.{all_zero}
 use Rattle.records.proofs.Laws.{zero_stops, zero_goes_on, zero_ends}
 use Rattle.records.proofs.all_zero.Goals as goal
 

@@ -1,10 +1,7 @@
-use mathlib.Core.Path.{◌≡◌, refl}
+use mathlib.Core.Path.{◌≡◌}
 use Prim.Native.Nat.{◌≤◌, ◌-◌}
-use native.Mathlib.Omega.{arith}
 use lib.ListN.{length, drop}
-use borrow.Author.Rules.{rules}
 use Rattle.records.specs.Records.{all_zero}
-use Rattle.records.proofs.Laws.{zero_stops, zero_goes_on, zero_ends}
 use Rattle.records.proofs.all_zero.Given as goal
 
 abbrev pub invariant-loop-k : goal.invariant-loop-k

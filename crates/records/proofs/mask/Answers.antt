@@ -1,6 +1,5 @@
 -- `records::mask` meets its contract. Assumes nothing.
 use native.Mathlib.Omega.{arith}
-use borrow.Author.Rules.{rules}
 use Rattle.records.proofs.mask.Goals as goal
 
 pub overflow_cast-result : goal.overflow_cast-result

@@ -1,6 +1,5 @@
 -- `records::reached_fits` meets its contract. Assumes nothing.
 use mathlib.Core.Path.{refl}
-use borrow.Author.Rules.{rules}
 use Rattle.records.specs.Records.{reached_fits}
 use Rattle.records.proofs.reached_fits.Goals as goal
 

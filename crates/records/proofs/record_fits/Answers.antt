@@ -1,5 +1,4 @@
 -- `records::record_fits` meets its contract. Assumes nothing.
-use borrow.Author.Rules.{rules}
 use Rattle.records.proofs.Laws.{fits_reached, fits_zero}
 use Rattle.records.proofs.record_fits.Goals as goal
 

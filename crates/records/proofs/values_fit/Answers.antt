@@ -1,10 +1,6 @@
 -- `records::values_fit` meets its contract. The loop's invariant: the facts from k on tell. Assumes nothing.
-use mathlib.Core.Path.{◌≡◌, refl}
-use Prim.Native.Nat.{◌≤◌, ◌-◌}
+use mathlib.Core.Path.{refl}
 use native.Mathlib.Omega.{arith}
-use borrow.Author.Rules.{rules}
-use Rattle.facts.specs.Facts.{fact_count}
-use Rattle.records.specs.Records.{values_fit}
 use Rattle.records.proofs.Laws.{values_stop, values_go_on, values_end}
 use mathlib.Core.Path.{ap}
 use mathlib.Core.Bool.{not}

@@ -1,10 +1,7 @@
-use mathlib.Core.Path.{◌≡◌, refl}
+use mathlib.Core.Path.{◌≡◌}
 use Prim.Native.Nat.{◌≤◌, ◌-◌}
-use native.Mathlib.Omega.{arith}
-use borrow.Author.Rules.{rules}
 use Rattle.facts.specs.Facts.{fact_count}
 use Rattle.records.specs.Records.{values_fit}
-use Rattle.records.proofs.Laws.{values_stop, values_go_on, values_end}
 use Rattle.records.proofs.values_fit.Given as goal
 
 abbrev pub invariant-loop-k : goal.invariant-loop-k

@@ -1,5 +1,4 @@
 -- `report::put_admitted` meets its contract: a map of its length is not refused, and its counts are small. Assumes nothing.
-use borrow.Author.Rules.{rules}
 use native.Mathlib.Omega.{arith}
 use Rattle.report.proofs.Writing.{none_refused, sets, small_counts, admitted_line_lem}
 use Rattle.report.proofs.put_admitted.Goals as goal

@@ -1,5 +1,4 @@
 -- `report::put_answer` meets its contract: the door refuses nothing, and what is found is small. Assumes nothing.
-use borrow.Author.Rules.{rules}
 use mathlib.Core.Path.{refl}
 use native.Mathlib.Omega.{arith}
 use Rattle.text.proofs.Writing.{the_same}

@@ -1,5 +1,4 @@
 -- `report::put_found` meets its contract. Assumes nothing.
-use borrow.Author.Rules.{rules}
 use native.Mathlib.Omega.{arith}
 use Rattle.report.proofs.Writing.{found_line_lem}
 use Rattle.report.proofs.put_found.Goals as goal

@@ -1,5 +1,4 @@
 -- `report::put_sets` meets its contract. Assumes nothing.
-use borrow.Author.Rules.{rules}
 use native.Mathlib.Omega.{arith}
 use Rattle.report.proofs.Writing.{sets_text_lem}
 use Rattle.report.proofs.put_sets.Goals as goal

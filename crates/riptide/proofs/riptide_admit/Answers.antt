@@ -1,7 +1,6 @@
 -- `riptide::riptide_admit` meets its contract. Assumes nothing.
 use mathlib.Core.Path.{◌∙◌, ap, subst⁻¹}
 use Prim.Native.Nat.{◌<◌}
-use borrow.Author.Rules.{rules}
 use Rattle.admission.specs.Admission.{AdmitResult}
 use Rattle.answers.specs.Numbers.{admit_number}
 use Rattle.answers.specs.Fits.{VerdictFits}

@@ -1,6 +1,5 @@
 -- `riptide::riptide_check` meets its contract. Assumes nothing.
 use mathlib.Core.Path.{◌∙◌, ap, subst⁻¹}
-use borrow.Author.Rules.{rules}
 use Rattle.checking.specs.Check.{CheckResult}
 use Rattle.answers.specs.Numbers.{check_number}
 use Rattle.answers.specs.Fits.{CheckFits}

@@ -1,6 +1,5 @@
 -- `riptide::riptide_count_sets` meets its contract. Assumes nothing.
 use mathlib.Core.Path.{◌∙◌, ap, subst⁻¹}
-use borrow.Author.Rules.{rules}
 use Rattle.answers.specs.Numbers.{count_number}
 use Rattle.answers.specs.Fits.{CountsFit}
 use Rattle.answers.proofs.Fits.{counts_fit}

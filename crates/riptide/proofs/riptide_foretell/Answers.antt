@@ -1,6 +1,5 @@
 -- `riptide::riptide_foretell` meets its contract. Assumes nothing.
 use mathlib.Core.Path.{◌∙◌, ap, subst⁻¹}
-use borrow.Author.Rules.{rules}
 use Rattle.answers.specs.Numbers.{foretell_number}
 use Rattle.answers.specs.Fits.{ForetoldFits}
 use Rattle.answers.proofs.Fits.{foretold_fits}

@@ -1,6 +1,5 @@
 -- `riptide::riptide_list` meets its contract. Assumes nothing.
 use mathlib.Core.Path.{sym, ap, ◌∙◌}
-use borrow.Author.Rules.{rules}
 use Rattle.listing.specs.Listing.{ListResult, list_number}
 use Rattle.riptide.proofs.riptide_list.Goals as goal
 

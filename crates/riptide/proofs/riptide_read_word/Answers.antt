@@ -4,7 +4,6 @@ use native.Mathlib.Omega.{arith}
 use Rattle.word.specs.Word.{InRange}
 use Rattle.word.proofs.Laws.{decoded_in_range}
 use Rattle.numbers.specs.Words.{read_number}
-use borrow.Author.Rules.{rules}
 use Rattle.riptide.proofs.riptide_read_word.Goals as goal
 
 pub read_number-requires : goal.read_number-requires

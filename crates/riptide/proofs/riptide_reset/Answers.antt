@@ -1,6 +1,5 @@
 use mathlib.Core.Path.{◌∙◌, ap, sym}
 use Rattle.state.specs.State.{reset_number}
-use borrow.Author.Rules.{rules}
 use Rattle.riptide.proofs.riptide_reset.Goals as goal
 
 pub returns-in-Done : goal.returns-in-Done

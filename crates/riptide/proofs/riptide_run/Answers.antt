@@ -1,6 +1,5 @@
 -- `riptide::riptide_run` meets its contract. Assumes nothing.
 use mathlib.Core.Path.{◌∙◌, ap}
-use borrow.Author.Rules.{rules}
 use Rattle.emulator.specs.Run.{RunResult}
 use Rattle.answers.specs.Numbers.{run_number}
 use Rattle.riptide.proofs.riptide_run.Goals as goal

@@ -2,7 +2,6 @@
 use mathlib.Core.Path.{◌∙◌, ap, sym}
 use Rattle.word.specs.Word.{encoded}
 use Rattle.numbers.specs.Words.{write_number}
-use borrow.Author.Rules.{rules}
 use Rattle.riptide.proofs.riptide_write_word.Goals as goal
 
 pub returns-in-Bits : goal.returns-in-Bits

@@ -1,13 +1,11 @@
 -- `running::run` meets its contract: a law for each way out. Assumes nothing.
 use mathlib.Core.Path.{ap, sym, subst, ◌∙◌}
-use borrow.Author.Tests.{not-true, not-false}
 use Rattle.state.specs.declared.State.{State}
 use Rattle.state.specs.State.{well_formed}
 use Rattle.emulator.specs.declared.RunAnswer.TheVariants.{Ended}
 use Rattle.emulator.specs.Run.{ran_over, yielded, ended}
 use Rattle.emulator.specs.Parts.{Accepted}
 use Rattle.emulator.proofs.Door.{wrong_length, not_formed, fits, refused_11, refused_12, refused_14, refused_15, refused_16, let_in_lem, came_stopped, let_in_sound}
-use borrow.Author.Rules.{rules}
 use Rattle.running.proofs.run.Goals as goal
 
 pub returns-then-not-image_fits : goal.returns-then-not-image_fits

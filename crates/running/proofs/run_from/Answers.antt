@@ -5,7 +5,6 @@ use Rattle.state.specs.State.{stored}
 use Rattle.emulator.specs.Run.{ran_over}
 use Rattle.emulator.specs.Parts.{laid_over, Accepted}
 use Rattle.emulator.proofs.Door.{running, finished}
-use borrow.Author.Rules.{rules}
 use Rattle.running.proofs.run_from.Goals as goal
 
 pub steps-last-requires : goal.steps-last-requires

@@ -1,7 +1,6 @@
 -- `state::load` meets its contract. Assumes nothing.
 use mathlib.Core.Path.{refl}
 use Rattle.state.specs.State.{loaded}
-use borrow.Author.Rules.{rules}
 use Rattle.state.proofs.Laws.{by_fields}
 use Rattle.state.proofs.load.Goals as goal
 

@@ -1,6 +1,5 @@
 -- `state::load_returns` meets its contract. Assumes nothing.
 use mathlib.Core.Path.{refl}
-use borrow.Author.Rules.{rules}
 use Rattle.state.proofs.Laws.{cons_eq}
 use Rattle.state.proofs.load_returns.Goals as goal
 

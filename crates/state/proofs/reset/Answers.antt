@@ -1,10 +1,8 @@
 -- `state::reset` meets its contract. Assumes nothing.
 use mathlib.Core.Path.{◌≡◌}
-use lib.ListN.{length, replicate}
+use lib.ListN.{length}
 use borrow.Author.Tests.{eq-eqb, ne_eqb}
 use Rattle.state.specs.State.{reset_state, reset_answer_of, reset_number_of}
-use Rattle.state.proofs.Laws.{copied}
-use borrow.Author.Rules.{rules}
 use Rattle.state.proofs.reset.Goals as goal
 
 pub returns-then-bytes-ne-LENGTH : goal.returns-then-bytes-ne-LENGTH

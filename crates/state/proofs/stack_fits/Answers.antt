@@ -1,5 +1,4 @@
 -- `state::stack_fits` meets its contract. Assumes nothing.
-use borrow.Author.Rules.{rules}
 use Rattle.state.proofs.Laws.{and_eq}
 use Rattle.state.proofs.stack_fits.Goals as goal
 

@@ -1,5 +1,4 @@
 -- `state::well_formed` meets its contract. Assumes nothing.
-use borrow.Author.Rules.{rules}
 use Rattle.state.proofs.Laws.{well_formed_eq}
 use Rattle.state.proofs.well_formed.Goals as goal
 

@@ -1,7 +1,6 @@
 -- `sweeps::back_to` meets its contract. Assumes nothing.
 use mathlib.Core.Path.{refl, sym, ◌∙◌}
 use native.Mathlib.Omega.{arith}
-use borrow.Author.Rules.{rules}
 use Rattle.transfer.proofs.TableLaws.{reached_fine}
 use Rattle.sweeps.proofs.Hub.{hub_covers, hub_walked}
 use Rattle.sweeps.proofs.back_to.Goals as goal

@@ -1,6 +1,5 @@
 -- `sweeps::begin` meets its contract. Assumes nothing.
 use native.Mathlib.Omega.{arith}
-use borrow.Author.Rules.{rules}
 use Rattle.sweeps.proofs.Beginning.{place_small, begun_still, begun_changed}
 use mathlib.Core.Path.{ap}
 use mathlib.Core.Bool.{not}

@@ -1,5 +1,4 @@
 -- `sweeps::covered` meets its contract. Assumes nothing.
-use borrow.Author.Rules.{rules}
 use Rattle.sweeps.proofs.Beginning.{not_covered, covered_by}
 use Rattle.sweeps.proofs.covered.Goals as goal
 

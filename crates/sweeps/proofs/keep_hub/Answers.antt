@@ -1,7 +1,6 @@
 -- `sweeps::keep_hub` meets its contract. Assumes nothing.
 use mathlib.Core.Path.{◌∙◌, ap, subst⁻¹}
 use native.Mathlib.Omega.{arith}
-use borrow.Author.Rules.{rules}
 use Rattle.facts.specs.declared.Cell.{Cell}
 use Rattle.facts.specs.Record.{cell_at, put_cell, join_cell, FineCell}
 use Rattle.facts.proofs.Cells.{join_fine}

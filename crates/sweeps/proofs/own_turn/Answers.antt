@@ -1,7 +1,5 @@
 -- `sweeps::own_turn` meets its contract. Assumes nothing.
 use mathlib.Core.List.{[]}
-use borrow.Author.Tests.{not-true}
-use borrow.Author.Rules.{rules}
 use Rattle.marks.specs.Marks.{own_passes}
 use Rattle.passing.proofs.Passing.{passed_as, passed_none, passed_not}
 use Rattle.sweeps.proofs.Beginning.{own_unreached, own_told}

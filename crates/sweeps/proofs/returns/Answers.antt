@@ -1,5 +1,4 @@
 -- `sweeps::returns` meets its contract. Assumes nothing.
-use borrow.Author.Rules.{rules}
 use Rattle.sweeps.proofs.Beginning.{returns_unreached, returns_top, returns_told}
 use Rattle.sweeps.proofs.returns.Goals as goal
 

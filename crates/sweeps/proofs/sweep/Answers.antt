@@ -1,12 +1,8 @@
 -- `sweeps::sweep` meets its contract. The invariant: the turns left, from the table now, give the whole sweep. Assumes
 -- nothing.
 use mathlib.Core.Path.{sym, ◌∙◌}
-use Prim.Native.Nat.{◌-◌, ◌*◌}
 use native.Mathlib.Omega.{arith}
-use borrow.Author.Rules.{rules}
-use Rattle.machine.specs.Step.{word_count}
-use Rattle.facts.specs.Record.{depths}
-use Rattle.sweeps.proofs.Rounds.{Round, round_begins, round_next, round_ends}
+use Rattle.sweeps.proofs.Rounds.{round_begins, round_next, round_ends}
 use Rattle.sweeps.proofs.sweep.Goals as goal
 
 pub loop-i-init : goal.loop-i-init

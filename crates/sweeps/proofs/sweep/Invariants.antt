@@ -1,10 +1,7 @@
-use mathlib.Core.Path.{sym, ◌∙◌}
 use Prim.Native.Nat.{◌-◌, ◌*◌}
-use native.Mathlib.Omega.{arith}
-use borrow.Author.Rules.{rules}
 use Rattle.machine.specs.Step.{word_count}
 use Rattle.facts.specs.Record.{depths}
-use Rattle.sweeps.proofs.Rounds.{Round, round_begins, round_next, round_ends}
+use Rattle.sweeps.proofs.Rounds.{Round}
 use Rattle.sweeps.proofs.sweep.Given as goal
 
 abbrev pub invariant-loop-i : goal.invariant-loop-i

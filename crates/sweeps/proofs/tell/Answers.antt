@@ -1,5 +1,4 @@
 -- `sweeps::tell` meets its contract. Assumes nothing.
-use borrow.Author.Rules.{rules}
 use Rattle.sweeps.proofs.Beginning.{told_in, told_out}
 use Rattle.sweeps.proofs.tell.Goals as goal
 

@@ -1,7 +1,6 @@
 -- `sweeps::turn` meets its contract. Assumes nothing.
 use mathlib.Core.Path.{subst⁻¹}
 use native.Mathlib.Omega.{arith}
-use borrow.Author.Rules.{rules}
 use Rattle.facts.specs.Record.{FineCell}
 use Rattle.sweeps.proofs.Turning.{place_of, begun_ready, own_laid, own_sited, own_hubs, one_down, turn_done}
 use Rattle.sweeps.proofs.turn.Goals as goal

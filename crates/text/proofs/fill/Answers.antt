@@ -1,8 +1,7 @@
 -- `text::fill` meets its contract: the spaces there and those left reach up to the place. Assumes nothing.
 use mathlib.Core.Path.{subst}
-use Prim.Native.Nat.{ℕ, ◌+◌, ◌-◌, ◌≤◌}
+use Prim.Native.Nat.{ℕ, ◌+◌, ◌-◌}
 use native.Mathlib.Omega.{arith}
-use borrow.Author.Rules.{rules}
 use Rattle.text.specs.Text.{spaces}
 use Rattle.text.proofs.Writing.{Going, nothing_there, goes_on_lem, all_there, first_space}
 use Rattle.text.proofs.fill.Goals as goal

@@ -1,9 +1,6 @@
-use mathlib.Core.Path.{subst}
-use Prim.Native.Nat.{ℕ, ◌+◌, ◌-◌, ◌≤◌}
-use native.Mathlib.Omega.{arith}
-use borrow.Author.Rules.{rules}
+use Prim.Native.Nat.{◌-◌, ◌≤◌}
 use Rattle.text.specs.Text.{spaces}
-use Rattle.text.proofs.Writing.{Going, nothing_there, goes_on_lem, all_there, first_space}
+use Rattle.text.proofs.Writing.{Going}
 use Rattle.text.proofs.fill.Given as goal
 
 abbrev pub invariant-loop-b : goal.invariant-loop-b

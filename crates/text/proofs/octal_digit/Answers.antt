@@ -1,7 +1,6 @@
 -- `text::octal_digit` meets its contract: an octal digit is three bits. Assumes nothing.
 use mathlib.Core.Path.{◌∙◌, ap}
 use Prim.Native.Nat.{ℕ, ◌+◌, ◌/◌, ◌%◌}
-use borrow.Author.Rules.{rules}
 use Rattle.text.proofs.Writing.{eights}
 use Rattle.text.proofs.octal_digit.Goals as goal
 

@@ -1,5 +1,4 @@
 -- `text::put` meets its contract. Assumes nothing.
-use borrow.Author.Rules.{rules}
 use Rattle.text.proofs.Writing.{put_here}
 use Rattle.text.proofs.put.Goals as goal
 

@@ -1,5 +1,4 @@
 -- `text::put_decimal` meets its contract: a law for each number of digits. Assumes nothing.
-use borrow.Author.Rules.{rules}
 use native.Mathlib.Omega.{arith}
 use Rattle.text.proofs.Writing.{the_same, one_digit, two_digits, three_digits}
 use Rattle.text.proofs.put_decimal.Goals as goal

@@ -1,8 +1,7 @@
 -- `text::put_octal` meets its contract: the digits there and those left are the number's. Assumes nothing.
 use mathlib.Core.Path.{subst}
-use Prim.Native.Nat.{ℕ, ◌+◌, ◌-◌, ◌≤◌}
+use Prim.Native.Nat.{ℕ, ◌+◌, ◌-◌}
 use native.Mathlib.Omega.{arith}
-use borrow.Author.Rules.{rules}
 use Rattle.text.specs.Text.{octal}
 use Rattle.text.proofs.Writing.{Going, nothing_there, goes_on_lem, all_there, first_octal}
 use Rattle.text.proofs.put_octal.Goals as goal

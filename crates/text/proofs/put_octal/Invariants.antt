@@ -1,9 +1,6 @@
-use mathlib.Core.Path.{subst}
-use Prim.Native.Nat.{ℕ, ◌+◌, ◌-◌, ◌≤◌}
-use native.Mathlib.Omega.{arith}
-use borrow.Author.Rules.{rules}
+use Prim.Native.Nat.{◌-◌, ◌≤◌}
 use Rattle.text.specs.Text.{octal}
-use Rattle.text.proofs.Writing.{Going, nothing_there, goes_on_lem, all_there, first_octal}
+use Rattle.text.proofs.Writing.{Going}
 use Rattle.text.proofs.put_octal.Given as goal
 
 abbrev pub invariant-loop-b : goal.invariant-loop-b

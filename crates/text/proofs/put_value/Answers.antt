@@ -1,5 +1,4 @@
 -- `text::put_value` meets its contract. Assumes nothing.
-use borrow.Author.Rules.{rules}
 use native.Mathlib.Omega.{arith}
 use Rattle.text.proofs.Writing.{behind}
 use Rattle.text.proofs.put_value.Goals as goal

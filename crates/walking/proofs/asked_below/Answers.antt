@@ -1,8 +1,7 @@
 -- `walking::asked_below` meets its contract. The invariant: from b on there is no call site. Assumes nothing.
 use mathlib.Core.Path.{sym, ◌∙◌}
 use native.Mathlib.Omega.{arith}
-use borrow.Author.Rules.{rules}
-use Rattle.walking.proofs.Returning.{Above, above_all, above_more}
+use Rattle.walking.proofs.Returning.{above_all, above_more}
 use Rattle.walking.proofs.asked_below.Goals as goal
 
 pub loop-b-init : goal.loop-b-init

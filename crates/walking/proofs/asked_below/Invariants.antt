@@ -1,7 +1,4 @@
-use mathlib.Core.Path.{sym, ◌∙◌}
-use native.Mathlib.Omega.{arith}
-use borrow.Author.Rules.{rules}
-use Rattle.walking.proofs.Returning.{Above, above_all, above_more}
+use Rattle.walking.proofs.Returning.{Above}
 use Rattle.walking.proofs.asked_below.Given as goal
 
 abbrev pub invariant-loop-b : goal.invariant-loop-b

@@ -1,6 +1,5 @@
 -- `walking::is_site` meets its contract. Assumes nothing.
 use native.Mathlib.Omega.{arith}
-use borrow.Author.Rules.{rules}
 use Rattle.machine.specs.Step.{word_count}
 use Rattle.callers.proofs.Points.{point_small, point_room}
 use Rattle.callers.proofs.Sites.{no_site}

@@ -1,9 +1,8 @@
 -- `walking::pass_back` meets its contract. The invariant: the call sites from a on are passed on to. Assumes nothing.
 use native.Mathlib.Omega.{arith}
-use borrow.Author.Rules.{rules}
 use Rattle.transfer.proofs.TableLaws.{reached_fine}
 use Rattle.passing.proofs.Passing.{passed_size, passed_marks, still_ready}
-use Rattle.walking.proofs.Returning.{asked_held, Backing, backing_begins, backing_next, backing_ends}
+use Rattle.walking.proofs.Returning.{asked_held, backing_begins, backing_next, backing_ends}
 use Rattle.walking.proofs.pass_back.Goals as goal
 
 pub site_below-a-requires : goal.site_below-a-requires

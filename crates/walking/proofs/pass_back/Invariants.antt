@@ -1,8 +1,4 @@
-use native.Mathlib.Omega.{arith}
-use borrow.Author.Rules.{rules}
-use Rattle.transfer.proofs.TableLaws.{reached_fine}
-use Rattle.passing.proofs.Passing.{passed_size, passed_marks, still_ready}
-use Rattle.walking.proofs.Returning.{asked_held, Backing, backing_begins, backing_next, backing_ends}
+use Rattle.walking.proofs.Returning.{Backing}
 use Rattle.walking.proofs.pass_back.Given as goal
 
 abbrev pub invariant-loop-a : goal.invariant-loop-a

@@ -1,5 +1,4 @@
 -- `walking::pass_cell` meets its contract. Assumes nothing.
-use borrow.Author.Rules.{rules}
 use Rattle.passing.proofs.Passing.{still_ready}
 use Rattle.walking.proofs.Returning.{cell_passed}
 use Rattle.walking.proofs.pass_cell.Goals as goal

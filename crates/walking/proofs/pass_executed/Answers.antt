@@ -1,14 +1,9 @@
 -- `walking::pass_executed` meets its contract. The invariant: the words at the first k places are passed on. Assumes nothing.
-use Prim.Native.Nat.{◌-◌, ◌≤◌}
 use native.Mathlib.Omega.{arith}
-use borrow.Author.Rules.{rules}
 use Rattle.machine.specs.Shape.{source_of}
-use Rattle.machine.specs.Step.{word_count}
-use Rattle.transfer.specs.Passes.{all_passes}
 use Rattle.callers.specs.Callers.{span_is}
-use Rattle.passing.specs.Passing.{Passed}
 use Rattle.passing.proofs.Passing.{passed_size, passed_marks, still_ready}
-use Rattle.walking.proofs.Executing.{executed_to, executed_begins, executed_next, executed_all}
+use Rattle.walking.proofs.Executing.{executed_begins, executed_next, executed_all}
 use Rattle.walking.proofs.pass_executed.Goals as goal
 
 pub loop-k-init : goal.loop-k-init

@@ -1,13 +1,9 @@
 use Prim.Native.Nat.{◌-◌, ◌≤◌}
-use native.Mathlib.Omega.{arith}
-use borrow.Author.Rules.{rules}
-use Rattle.machine.specs.Shape.{source_of}
 use Rattle.machine.specs.Step.{word_count}
 use Rattle.transfer.specs.Passes.{all_passes}
 use Rattle.callers.specs.Callers.{span_is}
 use Rattle.passing.specs.Passing.{Passed}
-use Rattle.passing.proofs.Passing.{passed_size, passed_marks, still_ready}
-use Rattle.walking.proofs.Executing.{executed_to, executed_begins, executed_next, executed_all}
+use Rattle.walking.proofs.Executing.{executed_to}
 use Rattle.walking.proofs.pass_executed.Given as goal
 
 abbrev pub invariant-loop-k : goal.invariant-loop-k

@@ -1,5 +1,4 @@
 -- `walking::pass_place` meets its contract. Assumes nothing.
-use borrow.Author.Rules.{rules}
 use Rattle.callers.specs.Callers.{span_is}
 use Rattle.walking.proofs.Executing.{not_given, not_inside, executed}
 use mathlib.Core.Path.{ap}

@@ -1,5 +1,4 @@
 -- `walking::pass_returns` meets its contract. Assumes nothing.
-use borrow.Author.Rules.{rules}
 use Rattle.forms.specs.Forms.{shape_is}
 use Rattle.transfer.specs.Passes.{is_return, some, words_at}
 use Rattle.walking.proofs.Returning.{back_at_zero, back_without, back_passed}

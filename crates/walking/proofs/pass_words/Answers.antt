@@ -1,6 +1,5 @@
 -- `walking::pass_words` meets its contract. Assumes nothing.
 use mathlib.Core.Path.{◌∙◌, ap, subst}
-use borrow.Author.Rules.{rules}
 use Rattle.forms.specs.declared.Form.{Form}
 use Rattle.machine.specs.Step.{word_count}
 use Rattle.forms.specs.Forms.{shape_is, FormFits}

@@ -1,6 +1,5 @@
 -- `walking::site_below` meets its contract. Assumes nothing.
 use native.Mathlib.Omega.{arith}
-use borrow.Author.Rules.{rules}
 use borrow.Author.Tests.{lt-ltb, le-ltb}
 use Rattle.passing.proofs.Passing.{small_depth}
 use Rattle.walking.proofs.Returning.{asked_last, marked_last}

@@ -1,6 +1,5 @@
 use native.Mathlib.Omega.{arith}
 use mathlib.Core.Path.{◌≡◌}
-use borrow.Author.Rules.{rules}
 use Rattle.machine.proofs.act.bus_byte.Goals as goal
 
 pub returns-else-bank-eq0 : goal.returns-else-bank-eq0

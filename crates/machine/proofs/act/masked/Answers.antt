@@ -1,5 +1,4 @@
 use borrow.Author.Tests.{eq-eqb, ne_eqb, lt-leb, le-leb}
-use borrow.Author.Rules.{rules}
 use Rattle.machine.proofs.act.masked.Goals as goal
 
 pub returns-then-op-ne1 : goal.returns-then-op-ne1

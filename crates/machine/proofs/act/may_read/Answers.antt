@@ -1,5 +1,4 @@
 use borrow.Author.Tests.{lt-leb, le-leb}
-use borrow.Author.Rules.{rules}
 use Rattle.machine.proofs.act.may_read.Goals as goal
 
 pub returns-then-s-lt-FIRST_BANK : goal.returns-then-s-lt-FIRST_BANK

@@ -1,6 +1,5 @@
 use borrow.Author.Tests.{eq-eqb, ne_eqb}
 use Rattle.machine.specs.Step.{result_of}
-use borrow.Author.Rules.{rules}
 use Rattle.machine.proofs.act.result.Goals as goal
 
 pub returns-then-op-eq0 : goal.returns-then-op-eq0
