@@ -7,12 +7,12 @@ use Rattle.state.specs.State.{stack_places}
 use Rattle.machine.specs.declared.Sequencer.{Sequencer}
 use Rattle.machine.specs.Step.{word_count}
 use Rattle.processor.specs.declared.Fetched.{Fetched}
-use Rattle.processor.specs.declared.Fetched.TheVariants.{Valid, Invalid as None}
+use Rattle.processor.specs.declared.Fetched.TheVariants.{Valid, Invalid as Nothing}
 
 -- What is fetched: the decoded word, or none exactly where it is invalid.
 abbrev pub Fetches : Word → Fetched → Type 0
 Fetches word (Valid w) = (word ≡ w) × (word ≡ Unlisted → ⊥)
-Fetches word None = word ≡ Unlisted
+Fetches word Nothing = word ≡ Unlisted
 
 -- What a step needs: at most 8,192 words, a map of its length, and of a well-formed state that PC is near while an
 -- XEC is pending, and that the depth is within the stack.

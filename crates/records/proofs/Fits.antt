@@ -94,21 +94,15 @@ module _ (b : List ℕ) (small : EachBelow 256 b) where
     reached_told : eqb (get_or b 0 0) 1 ≡ true → reached_fits b ≡ true → RecordOfCell b
     unfolding reached_fits read_cell
     reached_told w h =
-        let second = eqb (get_or b 1 0) 0 in
-        let low = ltb (mask_in b) (2 ^ fact_count) in
-        let values = values_fit b 0 fact_count in
-        let flag = ltb (get_or b (4 + overflow_slot) 0) 2 in
-        let last = eqb (get_or b 15 0) 0 in
-        let o = and_first (second && low && values && flag) last h in
-        let p = and_first (second && low && values) flag o in
-        let q = and_first (second && low) values p in
+        let o = and_first _ _ h in
+        let p = and_first _ _ o in
+        let q = and_first _ _ p in
         record {
           told = rw w
-              (sym (reached_record (eqb-true (get_or b 0 0) 1 w) (eqb-true (get_or b 1 0) 0 (and_first second low q))
-              (ltb-true (mask_in b) (2 ^ fact_count) (and_second second low q)) (and_second (second && low) values p)
-              (eqb-true (get_or b 15 0) 0 (and_second (second && low && values && flag) last h))));
+              (sym (reached_record (eqb-true (get_or b 0 0) 1 w) (eqb-true _ _ (and_first _ _ q)) (ltb-true _ _ (and_second _ _ q))
+              (and_second _ _ p) (eqb-true _ _ (and_second _ _ h))));
           fine = record { facts = refl; bounded = facts_bound 0 fact_count; blank = λ e. absurd (false≢true (sym e ∙ w)) };
-          flag = flag_back (ltb-true (get_or b (4 + overflow_slot) 0) 2 (and_second (second && low && values) flag o));
+          flag = flag_back (ltb-true _ _ (and_second _ _ o));
         }
 
 zero_told : (b : List ℕ) → all_zero b ≡ true → b ≡ replicate (length b) 0
