@@ -1,4 +1,4 @@
-// Calls every function that the library exports, once for each line of standard input: a kind of call, a name, what is
+// Calls every function of `riptide`, which `riptide_c` exports, once for each line of standard input: a kind of call, a name, what is
 // lent. Prints the numbers that come out in hexadecimal, and the digests of the lent bytes afterwards.
 #![tactic(auto)]
 

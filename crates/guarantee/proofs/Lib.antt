@@ -14,4 +14,5 @@ pub mod Witness
 pub mod Unseen
 pub mod Banks
 pub mod Accepted
+pub mod Wide
 pub mod Wider

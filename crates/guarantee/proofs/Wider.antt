@@ -6,35 +6,23 @@ use mathlib.Core.List.{List}
 use Prim.Native.Nat.{ℕ, ◌*◌}
 use native.Mathlib.Omega.{arith}
 use lib.Dec.{eqb}
-use lib.ListN.{length, get_or, set, take, drop, replicate}
+use lib.ListN.{length, get_or, take, drop}
 use Rattle.field.specs.Field.{rotate_right, low_bits}
 use Rattle.word.specs.Word.{decoded}
 use Rattle.map.specs.Map.{in_set}
 use Rattle.machine.specs.Shape.{shape_of, slot_of}
 use Rattle.machine.specs.Step.{word_count, result_of}
 use Rattle.flow.specs.Flow.{Closed, all_covered}
-use Rattle.facts.specs.declared.Cell.{Cell}
-use Rattle.facts.specs.Facts.{unknown, all_know_no_more, result_fact, with_carry_fact}
-use Rattle.facts.specs.Record.{record_size, depths, cell_of, reset_cell, holds_cell, record_of, mask_of, read_cell, cell_at, put_record, put_cell}
+use Rattle.facts.specs.Facts.{all_know_no_more, result_fact, with_carry_fact}
+use Rattle.facts.specs.Record.{record_size, depths, reset_cell, holds_cell, record_of, mask_of, read_cell, cell_at, put_record}
 use Rattle.records.specs.Records.{values_fit, reached_fits, all_zero, record_fits}
 use Rattle.transfer.specs.Passes.{over, over_down, gives, words_at, some, word_passes, all_passes, passes_from, table_space, table_length}
 use Rattle.transfer.specs.Findings.{all_below, finding_at}
 use Rattle.checking.proofs.Accepting.{acceptable_accepted}
 use Rattle.guarantee.specs.Accepted.{Wider}
 use Rattle.guarantee.proofs.Computed.{every, every_at, all_clean}
+use Rattle.guarantee.proofs.Wide.{begins, goes_on, wide}
 use Rattle.guarantee.proofs.Witness.{image, map, table, looping, witness_bytes, witness_fits, witness_least}
-
--- CALL asks AUX, and XEC asks R2: both are 0; words 3 and 4 ask the left address, which is 5
-begins : Cell
-begins = cell_of true (set (set (replicate 11 unknown) 0 0) 2 0)
-
-goes_on : Cell
-goes_on = cell_of true (set (set (set (replicate 11 unknown) 0 0) 2 0) 9 5)
-
-wide : List ℕ
-wide =
-    put_cell (put_cell (put_cell (put_cell (put_cell (put_cell (replicate (table_length image) 0) 0 begins) 1 goes_on) 2 goes_on) 10 goes_on) 11 goes_on)
-    12 goes_on
 
 all_laid : every (depths * word_count image) (λ i. record_fits (take record_size (drop (record_size * i) wide))) ≡ true
 unfolding every wide begins goes_on record_of mask_of put_record values_fit reached_fits all_zero
