@@ -65,7 +65,8 @@ def main():
                 new = line[5:]
                 if texts[file].count(old) != 1:
                     was = show(landed, f"{crate}/{file}") or ""
-                    a, b = was.split("\n"), texts[file].split("\n")
+                    # (the words come from the file as it stands, without what earlier pairs made of it)
+                    a, b = was.split("\n"), open(os.path.join(TOP, crate, file), encoding="utf-8").read().split("\n")
                     a = [l for l in a if not l.startswith("use ")]
                     b = [l for l in b if not l.startswith("use ")]
                     table = table_of(a, b) if len(a) == len(b) else {}
