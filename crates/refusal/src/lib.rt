@@ -1,0 +1,35 @@
+// Why a call is refused at its door: the question that got the first no.
+#![tactic(auto)]
+
+ghost use Rattle.std.specs.Prelude.{◌≡◌, ◌<◌};
+ghost use Rattle.refusal.specs.Refusal.{refusal_number};
+
+#[derive(Clone, Copy, Debug, PartialEq, Eq)]
+pub enum Refusal {
+    Image,
+    Map,
+    Table,
+    State,
+    Recording,
+    Trace,
+    Word,
+    Page,
+}
+
+impl Refusal {
+    // The paper's number.
+    pub fn number(self) -> u8
+        ensures { result ≡ refusal_number self }
+    {
+        match self {
+            Refusal::Image => 11,
+            Refusal::Map => 12,
+            Refusal::Table => 13,
+            Refusal::State => 14,
+            Refusal::Recording => 15,
+            Refusal::Trace => 16,
+            Refusal::Word => 22,
+            Refusal::Page => 41,
+        }
+    }
+}
