@@ -1,4 +1,5 @@
 -- A word's number comes apart again: what a caller takes out of a number is what was put into it. Assumes nothing.
+use Rattle.std.specs.Prelude.{Option, Some, None}
 use mathlib.Core.Bool.{true, false, ◌&&◌, ◌||◌, false≢true}
 use mathlib.Core.Path.{◌≡◌, refl, sym, ap, ◌∙◌}
 use Prim.Native.Nat.{ℕ, ◌+◌, ◌*◌, ◌/◌, ◌%◌, ◌^◌, ◌<◌}
@@ -10,8 +11,6 @@ use Rattle.choice.specs.Choice.{pick}
 use Rattle.choice.proofs.Laws.{pick_cases, and_first, and_second, or_cases}
 use Rattle.word.specs.declared.Word.{Word}
 use Rattle.word.specs.declared.Word.TheVariants.{Move, Add, And, Xor, XecRegister, XecBank, NztRegister, NztBank, Call, Ret, XmitRegister, XmitBank, Jmp, Invalid}
-use Rattle.word.specs.declared.Encoding.{Encoding}
-use Rattle.word.specs.declared.Encoding.TheVariants.{Bits, Refused}
 use Rattle.word.specs.Word.{is_bank, is_register_source, decoded, is_valid, encoded, InRange}
 use Rattle.word.proofs.Laws.{source_low, target_low, low_no_bank, valid_or_invalid, read_then_write, write_then_read, written_fits, decoded_in_range}
 use Rattle.numbers.specs.Words.{fields_number, read_number, xec_from, nzt_from, xmit_from, word_from, write_number, bits_from, number_in, word_in, encoding_in}
@@ -76,7 +75,7 @@ read_invalid w h v = ap read_number ((valid_or_invalid w h).1 v)
 -- What riptide_write_word takes and turns into a word, riptide_read_word gives again.
 module _ (w op a b c : ℕ) where
   abbrev Back : Word → Type 0
-  Back x = encoded x ≡ Bits w → read_number x ≡ fields_number op a b c
+  Back x = encoded x ≡ Some w → read_number x ≡ fields_number op a b c
 
   no_word : Back Invalid
   unfolding encoded
@@ -113,14 +112,14 @@ module _ (w op a b c : ℕ) where
       omega (arith, eqb-true op 7 (and_first (eqb op 7) (eqb b 0 && eqb c 0) e), eqb-true b 0 (and_first (eqb b 0) (eqb c 0) zeros), eqb-true c 0 (and_second (eqb b 0) (eqb c 0) zeros)))
       (λ _. no_word))))))))
 
-  pub write_read : encoded (word_from op a b c) ≡ Bits w → read_number (decoded w) ≡ fields_number op a b c
+  pub write_read : encoded (word_from op a b c) ≡ Some w → read_number (decoded w) ≡ fields_number op a b c
   write_read e = ap read_number (write_then_read (word_from op a b c) w e) ∙ from_back e
 
 pub written_apart : (x : Word) → encoding_in (write_number (encoded x)) ≡ encoded x
 written_apart x = go (encoded x) refl
   where
-    go : (r : Encoding) → encoded x ≡ r → encoding_in (write_number r) ≡ r
-    go (Bits w) e =
+    go : (r : Option ℕ) → encoded x ≡ r → encoding_in (write_number r) ≡ r
+    go (Some w) e =
         let z : number_in (w * 256) ≡ 0 = omega arith in
-        rw (eq-eqb (number_in (w * 256)) 0 z) (ap Bits (part_apart 8 16 0 w 0 (omega arith) (written_fits x w e) (omega arith)))
-    go Refused e = refl
+        rw (eq-eqb (number_in (w * 256)) 0 z) (ap Some (part_apart 8 16 0 w 0 (omega arith) (written_fits x w e) (omega arith)))
+    go None e = refl

@@ -1,11 +1,9 @@
 -- A word as one number: what riptide_read_word gives, what riptide_write_word takes and gives, and how a caller takes a
 -- number apart.
-use Rattle.std.specs.Prelude.{◌&&◌, ℕ, ◌+◌, ◌*◌, ◌/◌, ◌%◌, ◌^◌, eqb}
+use Rattle.std.specs.Prelude.{◌&&◌, Option, Some, None, ℕ, ◌+◌, ◌*◌, ◌/◌, ◌%◌, ◌^◌, eqb}
 use Rattle.choice.specs.Choice.{pick}
 use Rattle.word.specs.declared.Word.{Word}
 use Rattle.word.specs.declared.Word.TheVariants.{Move, Add, And, Xor, XecRegister, XecBank, NztRegister, NztBank, Call, Ret, XmitRegister, XmitBank, Jmp, Invalid}
-use Rattle.word.specs.declared.Encoding.{Encoding}
-use Rattle.word.specs.declared.Encoding.TheVariants.{Bits, Refused}
 use Rattle.word.specs.Word.{is_bank}
 
 -- riptide_read_word: opcode × 256 and the fields in the order of their bits, each in 16 bits; a word of fewer than three
@@ -55,9 +53,9 @@ word_from op a b c =
     (pick (eqb op 7 && (eqb b 0 && eqb c 0)) (Jmp a) Invalid)))))))
 
 -- word × 256, or 22
-abbrev pub write_number : Encoding → ℕ
-write_number (Bits w) = w * 256
-write_number Refused = 22
+abbrev pub write_number : Option ℕ → ℕ
+write_number (Some w) = w * 256
+write_number None = 22
 
 -- How a caller takes a number apart, as the macros of include/riptide.h do: `width` bits from bit `place` on, bit 0 being
 -- the lowest here.
@@ -72,5 +70,5 @@ number_in n = n % 256
 abbrev pub word_in : ℕ → Word
 word_in n = word_from (bits_from 8 8 n) (bits_from 16 16 n) (bits_from 32 16 n) (bits_from 48 16 n)
 
-abbrev pub encoding_in : ℕ → Encoding
-encoding_in n = pick (eqb (number_in n) 0) (Bits (bits_from 8 16 n)) Refused
+abbrev pub encoding_in : ℕ → Option ℕ
+encoding_in n = pick (eqb (number_in n) 0) (Some (bits_from 8 16 n)) None

@@ -21,24 +21,25 @@ pub fn read_number(word: Word) -> u64
     ensures { result ≡ read_number word }
 {
     match word {
-        Word::Move { s, rl, d } => return fields(0, s, rl, d),
-        Word::Add { s, rl, d } => return fields(1, s, rl, d),
-        Word::And { s, rl, d } => return fields(2, s, rl, d),
-        Word::Xor { s, rl, d } => return fields(3, s, rl, d),
-        Word::XecRegister { s, i } => return fields(4, s, i, 0),
-        Word::XecBank { s, l, i } => return fields(4, s, l, i),
-        Word::NztRegister { s, i } => return fields(5, s, i, 0),
-        Word::NztBank { s, l, i } => return fields(5, s, l, i),
-        Word::Call { i } => return fields(5, 7, i, 0),
-        Word::Ret { i } => return fields(5, 15, i, 0),
-        Word::XmitRegister { d, i } => return fields(6, d, i, 0),
-        Word::XmitBank { d, l, i } => return fields(6, d, l, i),
-        Word::Jmp { a } => return fields(7, a, 0, 0),
-        Word::Invalid => return 22,
+        Word::Move { s, rl, d } => fields(0, s, rl, d),
+        Word::Add { s, rl, d } => fields(1, s, rl, d),
+        Word::And { s, rl, d } => fields(2, s, rl, d),
+        Word::Xor { s, rl, d } => fields(3, s, rl, d),
+        Word::XecRegister { s, i } => fields(4, s, i, 0),
+        Word::XecBank { s, l, i } => fields(4, s, l, i),
+        Word::NztRegister { s, i } => fields(5, s, i, 0),
+        Word::NztBank { s, l, i } => fields(5, s, l, i),
+        Word::Call { i } => fields(5, 7, i, 0),
+        Word::Ret { i } => fields(5, 15, i, 0),
+        Word::XmitRegister { d, i } => fields(6, d, i, 0),
+        Word::XmitBank { d, l, i } => fields(6, d, l, i),
+        Word::Jmp { a } => fields(7, a, 0, 0),
+        Word::Invalid => 22,
     }
 }
 
 // XEC, NZT and XMIT: of a bank all three fields are given, of a register the third must be 0.
+#[tactic(auto, unfolding(crate::specs::Words::xec_from))]
 fn xec_from(s: usize, b: usize, c: usize) -> Word
     ensures { result ≡ xec_from s b c }
 {
@@ -52,6 +53,7 @@ fn xec_from(s: usize, b: usize, c: usize) -> Word
 }
 
 // CALL is NZT's form with the register 07, RET with 17.
+#[tactic(auto, unfolding(crate::specs::Words::nzt_from))]
 fn nzt_from(s: usize, b: usize, c: usize) -> Word
     ensures { result ≡ nzt_from s b c }
 {
@@ -70,6 +72,7 @@ fn nzt_from(s: usize, b: usize, c: usize) -> Word
     Word::NztRegister { s, i: b }
 }
 
+#[tactic(auto, unfolding(crate::specs::Words::xmit_from))]
 fn xmit_from(d: usize, b: usize, c: usize) -> Word
     ensures { result ≡ xmit_from d b c }
 {
@@ -83,32 +86,19 @@ fn xmit_from(d: usize, b: usize, c: usize) -> Word
 }
 
 // The case of an opcode and its fields.
+#[tactic(auto, unfolding(crate::specs::Words::word_from))]
 pub fn word_from(op: usize, a: usize, b: usize, c: usize) -> Word
     ensures { result ≡ word_from op a b c }
 {
-    if op == 0 {
-        return Word::Move { s: a, rl: b, d: c };
+    match op {
+        0 => Word::Move { s: a, rl: b, d: c },
+        1 => Word::Add { s: a, rl: b, d: c },
+        2 => Word::And { s: a, rl: b, d: c },
+        3 => Word::Xor { s: a, rl: b, d: c },
+        4 => xec_from(a, b, c),
+        5 => nzt_from(a, b, c),
+        6 => xmit_from(a, b, c),
+        7 if (b == 0) & (c == 0) => Word::Jmp { a },
+        _ => Word::Invalid,
     }
-    if op == 1 {
-        return Word::Add { s: a, rl: b, d: c };
-    }
-    if op == 2 {
-        return Word::And { s: a, rl: b, d: c };
-    }
-    if op == 3 {
-        return Word::Xor { s: a, rl: b, d: c };
-    }
-    if op == 4 {
-        return xec_from(a, b, c);
-    }
-    if op == 5 {
-        return nzt_from(a, b, c);
-    }
-    if op == 6 {
-        return xmit_from(a, b, c);
-    }
-    if (op == 7) & ((b == 0) & (c == 0)) {
-        return Word::Jmp { a };
-    }
-    Word::Invalid
 }

@@ -12,7 +12,7 @@ pub enum Refusal {
     State,
     Recording,
     Trace,
-    Word,
+    Unlisted,
     Page,
 }
 
@@ -28,7 +28,7 @@ impl Refusal {
             Refusal::State => 14,
             Refusal::Recording => 15,
             Refusal::Trace => 16,
-            Refusal::Word => 22,
+            Refusal::Unlisted => 22,
             Refusal::Page => 41,
         }
     }

@@ -3,6 +3,7 @@
 use mathlib.Core.Bool.{Bool, true, false, ◌&&◌, ◌||◌, or_comm}
 use mathlib.Core.List.{[], ◌∷◌}
 use mathlib.Core.Logic.{◌↔◌}
+use Rattle.std.specs.Prelude.{Option, Some, None}
 use mathlib.Core.Path.{◌≡◌, refl, ap, sym, ◌∙◌, subst}
 use Prim.Native.Nat.{ℕ, ◌+◌, ◌*◌, ◌/◌, ◌%◌, ◌<◌, ◌≤◌}
 use native.Mathlib.Omega.{arith}
@@ -12,8 +13,6 @@ use Rattle.choice.specs.Choice.{pick}
 use Rattle.choice.proofs.Laws.{pick_cases, pick_beside, pick_test, pick_or, and_both, and_first, and_second, or_cases}
 use Rattle.word.specs.declared.Word.{Word}
 use Rattle.word.specs.declared.Word.TheVariants.{Move, Add, And, Xor, XecRegister, XecBank, NztRegister, NztBank, Call, Ret, XmitRegister, XmitBank, Jmp, Invalid}
-use Rattle.word.specs.declared.Encoding.{Encoding}
-use Rattle.word.specs.declared.Encoding.TheVariants.{Bits}
 use Rattle.word.specs.Word.{is_bank, is_register_source, is_register_target, is_source, is_target, is_xec_length}
 use Rattle.word.specs.Word.{opcode_of, bits3to7, bits8to10, bits11to15, bits8to15, bits3to15}
 use Rattle.word.specs.Word.{act_of, act_read, xec_read, nzt_read, xmit_read, decoded, is_valid, fields_of, reading}
@@ -68,7 +67,7 @@ low_decoded op s low hs hl =
 -- What holds where the word w is read as x and is listed or not.
 record Reads (w : ℕ) (x : Word) (v : Bool) : Type 0 where
   valid : (x ≡ Invalid) ↔ (v ≡ false)
-  written : v ≡ true → encoded x ≡ Bits w
+  written : v ≡ true → encoded x ≡ Some w
   told : is_valid w ≡ v → fields_of x ≡ reading w
   range : InRange x
 
@@ -76,11 +75,11 @@ unlisted : (w : ℕ) → Reads w Invalid false
 unfolding reading
 unlisted w = record { valid = (λ e. refl, λ e. refl); written = λ e. cc; told = λ v. simp v; range = tt }
 
-listed : (w : ℕ) {x : Word} → (x ≡ Invalid → true ≡ false) → encoded x ≡ Bits w
+listed : (w : ℕ) {x : Word} → (x ≡ Invalid → true ≡ false) → encoded x ≡ Some w
     → (is_valid w ≡ true → fields_of x ≡ reading w) → InRange x → Reads w x true
 listed w n e t r = record { valid = (n, λ z. cc); written = λ z. e; told = t; range = r }
 
-bits : (ok : Bool) (n w : ℕ) → ok ≡ true → n ≡ w → bits_if ok n ≡ Bits w
+bits : (ok : Bool) (n w : ℕ) → ok ≡ true → n ≡ w → bits_if ok n ≡ Some w
 bits ok n w p q = simp (p, q)
 
 -- NZT: the order in which reading asks, and the order of the list.
@@ -94,20 +93,20 @@ module _ (w : ℕ) (small : w < 65536) where
   -- the word that its own fields make, and its numbers, for each layout
   module _ (op : ℕ) (e : opcode_of w ≡ op) where
     act_written : is_source (bits3to7 w) ≡ true → is_target (bits11to15 w) ≡ true
-        → act_bits op (bits3to7 w) (bits8to10 w) (bits11to15 w) ≡ Bits w
+        → act_bits op (bits3to7 w) (bits8to10 w) (bits11to15 w) ≡ Some w
     act_written s d =
         bits _ (word_of op (bits3to7 w) (low_of (bits8to10 w) (bits11to15 w))) w
         (and_both (and_both s (lt-ltb (bits8to10 w) 8 (omega arith))) d)
         (omega arith)
 
-    register_written : (ok : Bool) → ok ≡ true → register_bits op ok (bits3to7 w) (bits8to15 w) ≡ Bits w
+    register_written : (ok : Bool) → ok ≡ true → register_bits op ok (bits3to7 w) (bits8to15 w) ≡ Some w
     register_written ok h =
         bits _ (word_of op (bits3to7 w) (bits8to15 w)) w
         (and_both h (lt-ltb (bits8to15 w) 256 (omega arith)))
         (omega arith)
 
     bank_written : (ok : Bool) → ok ≡ true → is_bank (bits3to7 w) ≡ true
-        → bank_bits op ok (bits3to7 w) (bits8to10 w) (bits11to15 w) ≡ Bits w
+        → bank_bits op ok (bits3to7 w) (bits8to10 w) (bits11to15 w) ≡ Some w
     bank_written ok h b =
         bits _ (word_of op (bits3to7 w) (low_of (bits8to10 w) (bits11to15 w))) w
         (and_both (and_both h b) (lt-ltb (bits11to15 w) 32 (omega arith)))
@@ -144,14 +143,14 @@ module _ (w : ℕ) (small : w < 65536) where
 
   -- a word at a bank or at a register of opcodes 4 to 6
   at_bank : (op : ℕ) {x : Word} → opcode_of w ≡ op → 4 ≤ op → op < 7 → is_bank (bits3to7 w) ≡ true
-      → (x ≡ Invalid → true ≡ false) → encoded x ≡ Bits w
+      → (x ≡ Invalid → true ≡ false) → encoded x ≡ Some w
       → fields_of x ≡ (op ∷ bits3to7 w ∷ bits8to10 w ∷ bits11to15 w ∷ [])
       → (BankInRange (bits3to7 w) (bits8to10 w) (bits11to15 w) → InRange x) → Reads w x true
   at_bank op o h k b n e t r =
       listed w n e (λ v. t ∙ bank_told op o h k b v) (r (omega arith, b, omega arith, omega arith))
 
   at_register : (op : ℕ) {x : Word} → opcode_of w ≡ op → 4 ≤ op → op < 7 → is_bank (bits3to7 w) ≡ false
-      → (x ≡ Invalid → true ≡ false) → encoded x ≡ Bits w
+      → (x ≡ Invalid → true ≡ false) → encoded x ≡ Some w
       → fields_of x ≡ (op ∷ bits3to7 w ∷ bits8to15 w ∷ []) → InRange x → Reads w x true
   at_register op o h k b n e t r = listed w n e (λ v. t ∙ register_told op o h k b v) r
 
@@ -241,7 +240,7 @@ module _ (w : ℕ) (small : w < 65536) {read : Word} (e : read ≡ decoded w) wh
       either false f = absurd (other (e ∙ (valid_or_invalid w small).1 f))
 
 -- A listed word, read and written again, is the same word.
-pub read_then_write : (w : ℕ) → w < 65536 → is_valid w ≡ true → encoded (decoded w) ≡ Bits w
+pub read_then_write : (w : ℕ) → w < 65536 → is_valid w ≡ true → encoded (decoded w) ≡ Some w
 read_then_write w h = (reads w h).written
 
 pub reading_decoded : (w : ℕ) → w < 65536 → fields_of (decoded w) ≡ reading w
@@ -276,7 +275,7 @@ bank_in_range ok s l i f h =
     (((bank_range s b).1, b, f k, ltb-true _ _ (and_second (ok && is_bank s) _ h)), k)
 
 -- What is written is the word that the fields make, and its tests held.
-bits_back : (ok : Bool) (n w : ℕ) → bits_if ok n ≡ Bits w → (ok ≡ true) × (n ≡ w)
+bits_back : (ok : Bool) (n w : ℕ) → bits_if ok n ≡ Some w → (ok ≡ true) × (n ≡ w)
 bits_back true n w h = (refl, cc)
 bits_back false n w h = (cc, cc)
 
@@ -287,7 +286,7 @@ record Writes (w : ℕ) (x : Word) : Type 0 where
   range : InRange x
 
 -- Opcodes 0-3.
-act_writes : (w op s rl d : ℕ) {x : Word} → op < 4 → act_bits op s rl d ≡ Bits w → act_of op s rl d ≡ x
+act_writes : (w op s rl d : ℕ) {x : Word} → op < 4 → act_bits op s rl d ≡ Some w → act_of op s rl d ≡ x
     → (ActInRange s rl d → InRange x) → Writes w x
 unfolding decoded
 act_writes w op s rl d h b e f =
@@ -300,7 +299,7 @@ act_writes w op s rl d h b e f =
     record { back = simp (os, lt-ltb op 4 h, fs, ls, xs, r.3, r.4) e; fits = omega arith; range = f r }
 
 -- XEC, NZT and XMIT of a register or a bank: what is left is to read the word at its opcode.
-register_writes : (w op s i : ℕ) (ok : Bool) {x : Word} → op < 7 → (ok ≡ true → s < 16) → register_bits op ok s i ≡ Bits w
+register_writes : (w op s i : ℕ) (ok : Bool) {x : Word} → op < 7 → (ok ≡ true → s < 16) → register_bits op ok s i ≡ Some w
     → (RegisterInRange s ok i → InRange x)
     → (ok ≡ true → opcode_of w ≡ op → bits3to7 w ≡ s → is_bank s ≡ false → bits8to15 w ≡ i → decoded w ≡ x) → Writes w x
 register_writes w op s i ok ho low b g f =
@@ -312,7 +311,7 @@ register_writes w op s i ok ho low b g f =
       range = g r;
     }
 
-bank_writes : (w op s l i : ℕ) (ok : Bool) {x : Word} → op < 7 → (ok ≡ true → l < 8) → bank_bits op ok s l i ≡ Bits w
+bank_writes : (w op s l i : ℕ) (ok : Bool) {x : Word} → op < 7 → (ok ≡ true → l < 8) → bank_bits op ok s l i ≡ Some w
     → (BankInRange s l i → ok ≡ true → InRange x)
     → (ok ≡ true → opcode_of w ≡ op → bits3to7 w ≡ s → is_bank s ≡ true → bits8to10 w ≡ l → bits11to15 w ≡ i → decoded w ≡ x)
     → Writes w x
@@ -325,7 +324,7 @@ bank_writes w op s l i ok ho short b g f =
       range = g r.0 r.1;
     }
 
-writes : (x : Word) (w : ℕ) → encoded x ≡ Bits w → Writes w x
+writes : (x : Word) (w : ℕ) → encoded x ≡ Some w → Writes w x
 unfolding encoded decoded
 writes (Move s rl d) w h = act_writes w 0 s rl d (omega arith) h refl (λ r. r)
 writes (Add s rl d) w h = act_writes w 1 s rl d (omega arith) h refl (λ r. r)
@@ -358,15 +357,15 @@ writes (Jmp a) w h =
 writes Invalid w h = let z : ◌≡◌ {A = ℕ} 0 1 = cc in record { back = cc; fits = omega arith; range = tt }
 
 -- What is written and read again is the same case with the same fields.
-pub write_then_read : (x : Word) (w : ℕ) → encoded x ≡ Bits w → decoded w ≡ x
+pub write_then_read : (x : Word) (w : ℕ) → encoded x ≡ Some w → decoded w ≡ x
 write_then_read x w h = (writes x w h).back
 
-pub written_fits : (x : Word) (w : ℕ) → encoded x ≡ Bits w → w < 65536
+pub written_fits : (x : Word) (w : ℕ) → encoded x ≡ Some w → w < 65536
 written_fits x w h = (writes x w h).fits
 
-pub written_in_range : (x : Word) (w : ℕ) → encoded x ≡ Bits w → InRange x
+pub written_in_range : (x : Word) (w : ℕ) → encoded x ≡ Some w → InRange x
 written_in_range x w h = (writes x w h).range
 
 -- What is written as the definition says has the paper's numbers.
-pub written_as : {x y : Word} {r : Encoding} → x ≡ y → r ≡ encoded y → (r ≡ encoded x) × (written_of r ≡ writing x)
+pub written_as : {x y : Word} {r : Option ℕ} → x ≡ y → r ≡ encoded y → (r ≡ encoded x) × (written_of r ≡ writing x)
 written_as e f = (f ∙ ap encoded (sym e), ap written_of (f ∙ ap encoded (sym e)))

@@ -1,12 +1,12 @@
 -- The instruction words of the manual's 35 worked examples, read and written, as one list each. The case stands in the
 -- manual's assembler notation: R17 is the right bus address, LIV3 the left bank at bit 3, @ octal, $ hexadecimal. Where
 -- notation and binary word disagree, the binary word decides.
+use Rattle.std.specs.Prelude.{Some}
 use mathlib.Core.Path.{◌≡◌, refl}
 use mathlib.Core.List.{List, [], ◌∷◌, map}
 use Prim.Native.Nat.{ℕ}
 use Rattle.word.specs.declared.Word.{Word}
 use Rattle.word.specs.declared.Word.TheVariants.{Move, Add, And, Xor, XecRegister, XecBank, NztRegister, NztBank, Call, Ret, XmitRegister, XmitBank, Jmp}
-use Rattle.word.specs.declared.Encoding.TheVariants.{Bits}
 use Rattle.word.specs.Word.{decoded, encoded}
 
 abbrev words : List ℕ
@@ -95,6 +95,6 @@ unfolding decoded
 manual_read = refl
 
 -- "and written again"
-pub manual_written : map encoded cases ≡ map Bits words
+pub manual_written : map encoded cases ≡ map Some words
 unfolding encoded
 manual_written = refl

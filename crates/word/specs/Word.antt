@@ -1,11 +1,9 @@
 -- The word ("The word" of document 01). Register numbers are octal there: 07 is 7, 10 is 8, 11 is 9,
 -- 17 is 15, 20-27 is 16-23, 30-37 is 24-31.
-use Rattle.std.specs.Prelude.{Bool, true, ◌&&◌, ◌||◌, List, [], ◌∷◌, ◌≡◌, ℕ, ◌+◌, ◌*◌, ◌/◌, ◌%◌, ◌<◌, ◌≤◌, leb, ltb, eqb}
+use Rattle.std.specs.Prelude.{Bool, true, ◌&&◌, ◌||◌, List, [], ◌∷◌, ◌≡◌, ℕ, ◌+◌, ◌*◌, ◌/◌, ◌%◌, ◌<◌, ◌≤◌, leb, ltb, eqb, Option, Some, None}
 use Rattle.choice.specs.Choice.{pick}
 use Rattle.word.specs.declared.Word.{Word}
 use Rattle.word.specs.declared.Word.TheVariants.{Move, Add, And, Xor, XecRegister, XecBank, NztRegister, NztBank, Call, Ret, XmitRegister, XmitBank, Jmp, Invalid}
-use Rattle.word.specs.declared.Encoding.{Encoding}
-use Rattle.word.specs.declared.Encoding.TheVariants.{Bits, Refused}
 
 -- 20-37 is a bank
 abbrev pub is_bank : ℕ → Bool
@@ -25,7 +23,7 @@ is_register_target r = ltb r 8 || eqb r 9 || eqb r 15
 abbrev pub is_target : ℕ → Bool
 is_target r = is_register_target r || is_bank r
 
--- The places of the fields. Bits 0-2 are the opcode; bits 3-7 are S, or D of XMIT; bits 8-10 are R or L;
+-- The places of the fields. Some 0-2 are the opcode; bits 3-7 are S, or D of XMIT; bits 8-10 are R or L;
 -- bits 11-15 are D, or I beside an L; bits 8-15 are I; the last 13 bits are the address of JMP.
 abbrev pub opcode_of : ℕ → ℕ
 opcode_of w = w / 8192
@@ -141,22 +139,22 @@ abbrev pub low_of : ℕ → ℕ → ℕ
 low_of l x = l * 32 + x
 
 -- Writing fields gives the word; a field wider than its place or outside the lists gets 22.
-abbrev pub bits_if : Bool → ℕ → Encoding
-bits_if ok w = pick ok (Bits w) Refused
+abbrev pub bits_if : Bool → ℕ → Option ℕ
+bits_if ok w = pick ok (Some w) None
 
-abbrev pub act_bits : ℕ → ℕ → ℕ → ℕ → Encoding
+abbrev pub act_bits : ℕ → ℕ → ℕ → ℕ → Option ℕ
 act_bits op s rl d = bits_if (is_source s && ltb rl 8 && is_target d) (word_of op s (low_of rl d))
 
-abbrev pub register_bits : ℕ → Bool → ℕ → ℕ → Encoding
+abbrev pub register_bits : ℕ → Bool → ℕ → ℕ → Option ℕ
 register_bits op ok s i = bits_if (ok && ltb i 256) (word_of op s i)
 
-abbrev pub bank_bits : ℕ → Bool → ℕ → ℕ → ℕ → Encoding
+abbrev pub bank_bits : ℕ → Bool → ℕ → ℕ → ℕ → Option ℕ
 bank_bits op ok s l i = bits_if (ok && is_bank s && ltb i 32) (word_of op s (low_of l i))
 
-abbrev pub jmp_bits : ℕ → Encoding
+abbrev pub jmp_bits : ℕ → Option ℕ
 jmp_bits a = bits_if (ltb a 8192) (7 * 8192 + a)
 
-unfoldable pub encoded : Word → Encoding
+unfoldable pub encoded : Word → Option ℕ
 encoded (Move s rl d) = act_bits 0 s rl d
 encoded (Add s rl d) = act_bits 1 s rl d
 encoded (And s rl d) = act_bits 2 s rl d
@@ -170,12 +168,12 @@ encoded (Ret i) = register_bits 5 true 15 i
 encoded (XmitRegister d i) = register_bits 6 (is_register_target d) d i
 encoded (XmitBank d l i) = bank_bits 6 (ltb l 8) d l i
 encoded (Jmp a) = jmp_bits a
-encoded Invalid = Refused
+encoded Invalid = None
 
 -- The paper's numbers for each case of writing: 0 and the word, or 22.
-abbrev pub written_of : Encoding → List ℕ
-written_of (Bits w) = 0 ∷ w ∷ []
-written_of Refused = 22 ∷ []
+abbrev pub written_of : Option ℕ → List ℕ
+written_of (Some w) = 0 ∷ w ∷ []
+written_of None = 22 ∷ []
 
 -- Writing, in the paper's numbers.
 abbrev pub writing : Word → List ℕ

@@ -8,7 +8,7 @@ ghost use Rattle.word.specs.Word.{is_bank, is_register_source, is_register_targe
 ghost use Rattle.word.specs.Word.{act_of, act_read, xec_read, nzt_read, xmit_read, decoded, is_valid, fields_of, reading};
 ghost use Rattle.word.specs.Word.{word_of};
 
-#[derive(Clone, Copy)]
+#[derive(Clone, Copy, Debug, PartialEq, Eq)]
 pub enum Word {
     Move { s: usize, rl: usize, d: usize },
     Add { s: usize, rl: usize, d: usize },
@@ -28,13 +28,6 @@ pub enum Word {
 
 // The first number of a bank, 20 octal; the numbers below it are registers and bus addresses.
 pub const FIRST_BANK: usize = 16;
-
-// What encoding answers: the word's 16 bits, or the refusal 22.
-#[derive(Clone, Copy)]
-pub enum Encoding {
-    Bits(u16),
-    Refused,
-}
 
 // A bank: 20-37 octal.
 pub fn is_bank(r: usize) -> bool
@@ -61,41 +54,36 @@ pub fn is_register_target(r: usize) -> bool
 pub fn is_source(r: usize) -> bool
     ensures { result ≡ is_source r }
 {
-    (r < 7) | (r == 8) | (r == 9) | ((FIRST_BANK <= r) & (r < 32))
+    is_register_source(r) | is_bank(r)
 }
 
 // What D can be: a register or bus address that can be written, or a bank.
 pub fn is_target(r: usize) -> bool
     ensures { result ≡ is_target r }
 {
-    (r < 8) | (r == 9) | (r == 15) | ((FIRST_BANK <= r) & (r < 32))
+    is_register_target(r) | is_bank(r)
 }
 
 // Opcodes 0-3, each with its own case.
 fn act(op: usize, s: usize, rl: usize, d: usize) -> Word
     ensures { result ≡ act_of op s rl d }
 {
-    if op == 0 {
-        return Word::Move { s, rl, d };
+    match op {
+        0 => Word::Move { s, rl, d },
+        1 => Word::Add { s, rl, d },
+        2 => Word::And { s, rl, d },
+        _ => Word::Xor { s, rl, d },
     }
-    if op == 1 {
-        return Word::Add { s, rl, d };
-    }
-    if op == 2 {
-        return Word::And { s, rl, d };
-    }
-    Word::Xor { s, rl, d }
 }
 
 fn decode_act(op: usize, s: usize, rl: usize, d: usize) -> Word
     ensures { result ≡ act_read op s rl d }
 {
-    if is_source(s) {
-        if is_target(d) {
-            return act(op, s, rl, d);
-        }
+    if is_source(s) & is_target(d) {
+        act(op, s, rl, d)
+    } else {
+        Word::Invalid
     }
-    Word::Invalid
 }
 
 // XEC, NZT and XMIT: short is the constant beside a bank and its length, i the one beside a register.
@@ -151,30 +139,20 @@ fn decode_low(op: usize, s: usize, low: usize) -> Word
 {
     let l = low / 32;
     let short = low % 32;
-    if op < 4 {
-        return decode_act(op, s, l, short);
+    match op {
+        0..=3 => decode_act(op, s, l, short),
+        4 => decode_xec(s, l, short, low),
+        5 => decode_nzt(s, l, short, low),
+        _ => decode_xmit(s, l, short, low),
     }
-    if op == 4 {
-        return decode_xec(s, l, short, low);
-    }
-    if op == 5 {
-        return decode_nzt(s, l, short, low);
-    }
-    decode_xmit(s, l, short, low)
-}
-
-fn wide(x: u8) -> usize
-    ensures { (result ≡ x) × (result < 256) }
-{
-    x as usize
 }
 
 // Reads a word from its two bytes.
 pub fn decode_bytes(high: u8, low: u8) -> Word
     ensures { result ≡ decoded (high * 256 + low) }
 {
-    let h = wide(high);
-    let l = wide(low);
+    let h = usize::from(high);
+    let l = usize::from(low);
     let op = h / 32;
     let s = h % 32;
     if op == 7 {
@@ -194,8 +172,5 @@ pub fn decode(word: u16) -> Word
 pub fn is_valid(high: u8, low: u8) -> bool
     ensures { result ≡ is_valid (high * 256 + low) }
 {
-    let Word::Invalid = decode_bytes(high, low) else {
-        return true;
-    };
-    false
+    !matches!(decode_bytes(high, low), Word::Invalid)
 }
