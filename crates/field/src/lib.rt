@@ -10,7 +10,7 @@ pub fn rotate(x: u8, places: usize) -> u8
     requires { places < 8 }
     ensures { result ≡ rotate_right places x }
 {
-    x << ((8 - places) % 8) | x >> places
+    x.rotate_right(places as u32)
 }
 
 // A byte of length ones at its low end.
@@ -18,10 +18,7 @@ fn ones(length: usize) -> u8
     requires { length < 8 }
     ensures { result ≡ 2 ^ width_of length - 1 }
 {
-    if length == 0 {
-        return 255;
-    }
-    (1 << length) - 1
+    if length == 0 { 255 } else { (1 << length) - 1 }
 }
 
 // The low length bits of x.
@@ -33,6 +30,7 @@ pub fn low(x: u8, length: usize) -> u8
 }
 
 // The field of x whose least significant bit is at position.
+#[tactic(auto, unfolding(crate::specs::Field::field_of))]
 pub fn field(x: u8, position: usize, length: usize) -> u8
     requires { (position < 8) × (length < 8) }
     ensures { result ≡ field_of position length x }
@@ -53,14 +51,14 @@ pub fn merge(latch: u8, value: u8, position: usize, length: usize) -> u8
 pub fn sum(aux: u8, x: u8) -> u8
     ensures { result ≡ sum_of aux x }
 {
-    std::num::wrapping_add_u8(aux, x)
+    aux.wrapping_add(x)
 }
 
 // 1 where the sum exceeds 255, else 0.
 pub fn carry(aux: u8, x: u8) -> u8
     ensures { result ≡ carry_of aux x }
 {
-    if aux <= 255 - x { 0 } else { 1 }
+    u8::from(255 - x < aux)
 }
 
 pub fn and(aux: u8, x: u8) -> u8

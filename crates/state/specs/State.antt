@@ -1,10 +1,10 @@
 -- The state ("The state" of document 01): by value a struct, lent as 36 bytes.
 -- Its eleven values stand in the order of the eleven facts: AUX, R1-R6, R11, OVF, left address, right address.
-use Rattle.std.specs.Prelude.{Bool, true, ◌&&◌, ◌||◌, ◌⊎◌, ◌≡◌, List, [], ◌∷◌, ◌++◌, ℕ, zero, suc, ◌+◌, ◌*◌, ◌/◌, ◌%◌, ◌≤◌, ◌<◌, leb, ltb, eqb, length, get_or, replicate}
+use Rattle.std.specs.Prelude.{Bool, true, ◌&&◌, ◌||◌, ◌⊎◌, ◌≡◌, List, [], ◌∷◌, ◌++◌, ℕ, zero, suc, ◌+◌, ◌*◌, ◌/◌, ◌%◌, ◌≤◌, ◌<◌, leb, ltb, eqb, length, get_or, replicate, Result, Ok, Err, ⊤}
 use Rattle.choice.specs.Choice.{pick}
 use Rattle.state.specs.declared.State.{State}
-use Rattle.state.specs.declared.ResetAnswer.{ResetAnswer}
-use Rattle.state.specs.declared.ResetAnswer.TheVariants.{Done, Refused}
+use Rattle.refusal.specs.declared.Refusal.{Refusal}
+use Rattle.refusal.specs.Refusal.{refusal_number}
 
 -- "36 bytes"
 abbrev pub state_length : ℕ
@@ -137,16 +137,16 @@ zero_state =
     }
 
 -- reset puts question 14 for its length alone: its answer, and the bytes afterwards
-unfoldable pub reset_answer_of : List ℕ → ResetAnswer
-reset_answer_of bytes = pick (eqb (length bytes) state_length) Done Refused
+unfoldable pub reset_answer_of : List ℕ → Result ⊤ Refusal
+reset_answer_of bytes = pick (eqb (length bytes) state_length) (Ok tt) (Err Refusal.State)
 
 unfoldable pub reset_state : List ℕ → List ℕ
 reset_state bytes = pick (eqb (length bytes) state_length) reset_bytes bytes
 
 -- The paper's number for each case: 0, or 14.
-abbrev pub reset_number : ResetAnswer → ℕ
-reset_number Done = 0
-reset_number Refused = 14
+abbrev pub reset_number : Result ⊤ Refusal → ℕ
+reset_number (Ok done) = 0
+reset_number (Err refusal) = refusal_number refusal
 
 -- Reset, in the paper's numbers.
 unfoldable pub reset_number_of : List ℕ → ℕ

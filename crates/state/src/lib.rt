@@ -1,8 +1,10 @@
 // The machine's state by value, and its 36 bytes: loaded, tested, reset.
 #![tactic(auto)]
 
-ghost use Rattle.std.specs.Prelude.{◌≡◌, ◌<◌, ◌+◌, ◌*◌, length};
-ghost use Rattle.state.specs.State.{state_length, stack_places, bytes_from, numbers_from, loaded, flag_fits, place_fits, stack_fits, is_stop, well_formed, reset_answer_of, reset_number, reset_number_of, reset_state};
+ghost use Rattle.std.specs.Prelude.{◌≡◌, ◌<◌, ◌+◌};
+ghost use Rattle.state.specs.State.{state_length, stack_places, bytes_from, number_at, numbers_from, loaded, flag_fits, place_fits, stack_fits, is_stop, well_formed, reset_answer_of, reset_number, reset_number_of, reset_state};
+
+use refusal::Refusal;
 
 // Bytes of a state, and places of its call stack.
 pub const LENGTH: usize = 36;
@@ -27,70 +29,45 @@ pub struct State {
     pub stop: usize,
 }
 
-// What reset answers: done, or the refusal 14.
-#[derive(Clone, Copy)]
-pub enum ResetAnswer {
-    Done,
-    Refused,
-}
-
-// A number of two bytes, low byte first.
-fn number(low: u8, high: u8) -> u16
-    ensures { result ≡ low + 256 * high }
+// The number of two bytes from a place on, low byte first.
+fn number_at(b: &[u8; LENGTH], at: usize) -> u16
+    requires { at + 1 < state_length }
+    ensures { result ≡ number_at b.now at }
 {
-    low as u16 + 256 * (high as u16)
+    u16::from_le_bytes([b[at], b[at + 1]])
 }
 
-fn wide(x: u8) -> usize
-    ensures { result ≡ x }
-{
-    x as usize
-}
-
-fn wide_number(low: u8, high: u8) -> usize
-    ensures { result ≡ low + 256 * high }
-{
-    number(low, high) as usize
-}
-
-fn load_values(b: &[u8]) -> [u8; 11]
-    requires { length b.now ≡ state_length }
+fn load_values(b: &[u8; LENGTH]) -> [u8; 11]
     ensures { result ≡ bytes_from b.now 5 11 }
 {
-    [
-        b[5], b[6], b[7], b[8], b[9], b[10], b[11], b[12], b[13], b[14], b[15],
-    ]
+    let mut values = [0; 11];
+    values.copy_from_slice(&b[5..16]);
+    values
 }
 
-fn load_returns(b: &[u8]) -> [u16; PLACES]
-    requires { length b.now ≡ state_length }
+fn load_returns(b: &[u8; LENGTH]) -> [u16; PLACES]
     ensures { result ≡ numbers_from b.now 19 8 }
 {
-    [
-        number(b[19], b[20]),
-        number(b[21], b[22]),
-        number(b[23], b[24]),
-        number(b[25], b[26]),
-        number(b[27], b[28]),
-        number(b[29], b[30]),
-        number(b[31], b[32]),
-        number(b[33], b[34]),
-    ]
+    let mut returns = [0; PLACES];
+    for (place, r) in returns.iter_mut().enumerate() {
+        *r = number_at(b, 19 + 2 * place);
+    }
+    returns
 }
 
-pub fn load(b: &[u8]) -> State
-    requires { length b.now ≡ state_length }
+#[tactic(auto, unfolding(crate::specs::State::loaded))]
+pub fn load(b: &[u8; LENGTH]) -> State
     ensures { result ≡ loaded b.now }
 {
     State {
-        pc: wide_number(b[0], b[1]),
-        flag: wide(b[2]),
-        pending: wide_number(b[3], b[4]),
+        pc: usize::from(number_at(b, 0)),
+        flag: usize::from(b[2]),
+        pending: usize::from(number_at(b, 3)),
         values: load_values(b),
         latches: [b[16], b[17]],
-        depth: wide(b[18]),
+        depth: usize::from(b[18]),
         returns: load_returns(b),
-        stop: wide(b[35]),
+        stop: usize::from(b[35]),
     }
 }
 
@@ -111,25 +88,23 @@ fn place_fits(depth: usize, place: usize, r: u16) -> bool
     if place < depth { r <= 8192 } else { r == 0 }
 }
 
-fn stack_fits(depth: usize, r: [u16; PLACES]) -> bool
-    ensures { result ≡ stack_fits depth r stack_places }
+fn stack_fits(depth: usize, returns: [u16; PLACES]) -> bool
+    ensures { result ≡ stack_fits depth returns stack_places }
 {
-    place_fits(depth, 0, r[0])
-        & place_fits(depth, 1, r[1])
-        & place_fits(depth, 2, r[2])
-        & place_fits(depth, 3, r[3])
-        & place_fits(depth, 4, r[4])
-        & place_fits(depth, 5, r[5])
-        & place_fits(depth, 6, r[6])
-        & place_fits(depth, 7, r[7])
+    let mut fits = true;
+    for (place, r) in returns.iter().enumerate() {
+        fits &= place_fits(depth, place, *r);
+    }
+    fits
 }
 
 fn is_stop(n: usize) -> bool
     ensures { result ≡ is_stop n }
 {
-    (n == 0) | ((21 <= n) & (n <= 27))
+    (n == 0) | (21..=27).contains(&n)
 }
 
+#[tactic(auto, unfolding(crate::specs::State::well_formed))]
 pub fn well_formed(s: State) -> bool
     ensures { result ≡ well_formed s }
 {
@@ -140,13 +115,13 @@ pub fn well_formed(s: State) -> bool
 }
 
 // Makes all 36 bytes zero; a slice of another length is refused and stays as it is.
-pub fn reset(bytes: &mut [u8]) -> ResetAnswer
+#[tactic(auto, unfolding(crate::specs::State::reset_answer_of, crate::specs::State::reset_number_of, crate::specs::State::reset_state))]
+pub fn reset(bytes: &mut [u8]) -> Result<(), Refusal>
     ensures { (result ≡ reset_answer_of bytes.old) × (reset_number result ≡ reset_number_of bytes.old) × (bytes.new ≡ reset_state bytes.old) }
 {
     if bytes.len() != LENGTH {
-        return ResetAnswer::Refused;
+        return Err(Refusal::State);
     }
-    let zeros = [0u8; LENGTH];
-    bytes.copy_from_slice(&zeros);
-    ResetAnswer::Done
+    bytes.fill(0);
+    Ok(())
 }
