@@ -9,9 +9,7 @@ use borrow.Author.Tests.{eq-eqb, ne_eqb}
 use lib.Dec.{eqb}
 use lib.ListN.{length}
 use Rattle.choice.specs.Choice.{pick}
-use Rattle.map.specs.declared.Counts.{Counts}
-use Rattle.map.specs.declared.Counts.TheVariants.{Sets, Refused}
-use Rattle.map.specs.Map.{map_length, in_set, readable, writable, listed}
+use Rattle.map.specs.Map.{Counts, Sets, Refused, map_length, in_set, readable, writable, listed}
 use Rattle.map.specs.Map.{count_below, count_of, NothingReadable, counted, counts_of, counting}
 
 -- a set has at most n of the first n addresses

@@ -1,9 +1,9 @@
 -- The access map ("The map" of document 01): which bus addresses each bank may read and write.
 -- Bank 0 is left, 1 is right.
-use Rattle.std.specs.Prelude.{Bool, ◌||◌, List, [], ◌∷◌, ◌≡◌, ℕ, zero, suc, ◌+◌, ◌*◌, ◌/◌, ◌%◌, ◌^◌, eqb, length, get_or}
+use Rattle.std.specs.Prelude.{Bool, ◌||◌, List, [], ◌∷◌, ◌≡◌, ℕ, zero, suc, ◌+◌, ◌*◌, ◌/◌, ◌%◌, ◌^◌, eqb, length, get_or, Result, Ok, Err}
 use Rattle.choice.specs.Choice.{pick}
-use Rattle.map.specs.declared.Counts.{Counts}
-use Rattle.map.specs.declared.Counts.TheVariants.{Sets, Refused}
+use Rattle.refusal.specs.declared.Refusal.{Refusal}
+use Rattle.map.specs.declared.SetSizes.{SetSizes}
 
 -- "128 bytes": question 12
 abbrev pub map_length : ℕ
@@ -36,6 +36,16 @@ count_of map k = count_below map k 256
 -- "whose right readable set is empty" (2026-08 of document 02), of a bank
 abbrev pub NothingReadable : List ℕ → ℕ → Type 0
 NothingReadable map bank = count_of map (2 * bank) ≡ 0
+
+-- The counts of the four sets, or the refusal 12.
+pub data Counts : Type 0 where
+  Sets : ℕ → ℕ → ℕ → ℕ → Counts
+  Refused : Counts
+
+-- what the code answers
+abbrev pub counts_told : Result SetSizes Refusal → Counts
+counts_told (Ok sizes) = Sets sizes.left_readable sizes.left_writable sizes.right_readable sizes.right_writable
+counts_told (Err refusal) = Refused
 
 -- "counting a map's sets" puts question 12, then gives how many addresses each set has
 unfoldable pub counted : List ℕ → Counts

@@ -1,23 +1,23 @@
 // The access map: 128 bytes, four sets of bus addresses. Bank 0 is left, 1 is right.
 #![tactic(auto)]
 
-ghost use Rattle.std.specs.Prelude.{◌≡◌, ◌+◌, ◌≤◌, ◌<◌, length};
-ghost use Rattle.map.specs.Map.{map_length, in_set, readable, writable, listed, count_of, counted, counts_of, counting};
+ghost use Rattle.std.specs.Prelude.{◌≡◌, ◌+◌, ◌≤◌, ◌<◌, length, IfErr};
+ghost use Rattle.refusal.specs.declared.Refusal.{Refusal};
+ghost use Rattle.map.specs.Map.{map_length, in_set, readable, writable, listed, count_of, counts_told, counted, counts_of, counting};
 ghost use Rattle.map.specs.Ones.{number_from, ones_from};
+
+use refusal::Refusal;
 
 // Bytes of a map.
 pub const LENGTH: usize = 128;
 
-// The counts of the four sets, or the refusal 12.
-#[derive(Clone, Copy)]
-pub enum Counts {
-    Sets {
-        left_readable: usize,
-        left_writable: usize,
-        right_readable: usize,
-        right_writable: usize,
-    },
-    Refused,
+// How many addresses each set has.
+#[derive(Clone, Copy, Debug, PartialEq, Eq)]
+pub struct SetSizes {
+    pub left_readable: usize,
+    pub left_writable: usize,
+    pub right_readable: usize,
+    pub right_writable: usize,
 }
 
 // Is the address in the set, 0 to 3?
@@ -53,17 +53,21 @@ pub fn listed(map: &[u8], bank: usize, address: usize) -> bool
 }
 
 // The eight bytes from place `at` on as one word of 64 bits, the first byte lowest.
+#[tactic(auto, unfolding(crate::specs::Ones::number_from))]
 fn word_at(map: &[u8], at: usize) -> u64
     requires { at + 8 ≤ length map.now }
     ensures { result ≡ number_from map.now at 8 }
 {
-    let mut word = 0;
-    let mut i = 0;
-    while i < 8 {
-        word = word + ((map[at + i] as u64) << (8 * i));
-        i += 1;
-    }
-    word
+    u64::from_le_bytes([
+        map[at],
+        map[at + 1],
+        map[at + 2],
+        map[at + 3],
+        map[at + 4],
+        map[at + 5],
+        map[at + 6],
+        map[at + 7],
+    ])
 }
 
 // The ones of the eight bytes from place `at` on.
@@ -71,7 +75,7 @@ fn ones_at(map: &[u8], at: usize) -> usize
     requires { at + 8 ≤ length map.now }
     ensures { (result ≡ ones_from map.now at 8) × (result ≤ 64) }
 {
-    u64::count_ones(word_at(map, at)) as usize
+    word_at(map, at).count_ones() as usize
 }
 
 // How many addresses the set has.
@@ -83,17 +87,18 @@ fn set_size(map: &[u8], set: usize) -> usize
     ones_at(map, at) + ones_at(map, at + 8) + ones_at(map, at + 16) + ones_at(map, at + 24)
 }
 
-// How many addresses each set has, for a map of 128 bytes.
-pub fn count(map: &[u8]) -> Counts
-    ensures { (result ≡ counted map.now) × (counts_of result ≡ counting map.now) }
+// How many addresses each set has, for a map of 128 bytes; another length is refused.
+pub fn count(map: &[u8]) -> Result<SetSizes, Refusal>
+    ensures counts { (counts_told result ≡ counted map.now) × (counts_of (counts_told result) ≡ counting map.now) }
+    ensures refusal { IfErr result (λ e. e ≡ Refusal.Map) }
 {
     if map.len() != LENGTH {
-        return Counts::Refused;
+        return Err(Refusal::Map);
     }
-    Counts::Sets {
+    Ok(SetSizes {
         left_readable: set_size(map, 0),
         left_writable: set_size(map, 1),
         right_readable: set_size(map, 2),
         right_writable: set_size(map, 3),
-    }
+    })
 }
