@@ -86,8 +86,8 @@ pub fn xec(map: &[u8], bus: [u8; 2], w: Paged, q: Sequencer, values: &[u8; 11]) 
     if !machine::act::may_read(map, values, w.s) {
         return machine::stop(q, 23);
     }
-    let x = machine::act::operand(values, bus, w.s, 0, w.l);
-    defer_to(q, in_page(w.page, q.pc, usize::from(w.i) + usize::from(x)))
+    let x = usize::from(machine::act::operand(values, bus, w.s, 0, w.l));
+    defer_to(q, in_page(w.page, q.pc, usize::from(w.i) + x))
 }
 
 // NZT of a register or of a bank's field.

@@ -12,4 +12,4 @@ returns-then-not-may_read c = λ u w.
 pub returns : goal.returns
 returns c = λ u w.
     let a = c.args in
-    deferred a.map.now a.bus (source_of a.w.s 0 0 a.w.l) a.q a.values.now u w (page_size a.w.page) a.w.i c.operand-x.result c.in_page.result c.defer_to.result (sym (c.may_read.ensures 0 0 _) ∙ c.if-not-may_read.false) c.operand-x.ensures (rw (← c.from.ensures, ← c.from-2.ensures) c.in_page.ensures) c.defer_to.ensures
+    deferred a.map.now a.bus (source_of a.w.s 0 0 a.w.l) a.q a.values.now u w (page_size a.w.page) a.w.i c.from-x.result c.in_page.result c.defer_to.result (sym (c.may_read.ensures 0 0 _) ∙ c.if-not-may_read.false) (c.from-x.ensures ∙ c.operand.ensures) (rw (← c.from.ensures) c.in_page.ensures) c.defer_to.ensures
