@@ -16,8 +16,8 @@ use Rattle.map.specs.declared.Counts.{Counts}
 use Rattle.map.specs.declared.Counts.TheVariants.{Sets, Refused as NotCounted}
 use Rattle.map.specs.Map.{counted}
 use Rattle.state.specs.State.{EachBelow}
-use Rattle.emulator.specs.declared.RunAnswer.{RunAnswer}
-use Rattle.emulator.specs.declared.RunAnswer.TheVariants.{Refused, Ended}
+use Rattle.emulator.specs.Run.{RunAnswer}
+use Rattle.emulator.specs.Run.{Refused, Ended}
 use Rattle.machine.specs.Step.{word_count}
 use Rattle.emulator.specs.Run.{pair_count, image_fits, run_result}
 use Rattle.emulator.proofs.Range.{Ranged as RangedRun, answer_ranged as run-ranged}

@@ -10,8 +10,8 @@ use Rattle.checking.specs.declared.CheckAnswer.{CheckAnswer}
 use Rattle.checking.specs.declared.CheckAnswer.TheVariants.{Refused as NotChecked, Accepted, Failed}
 use Rattle.foretell.specs.declared.ForetellAnswer.{ForetellAnswer}
 use Rattle.foretell.specs.declared.ForetellAnswer.TheVariants.{Refused as NotForetold, Foretold}
-use Rattle.emulator.specs.declared.RunAnswer.{RunAnswer}
-use Rattle.emulator.specs.declared.RunAnswer.TheVariants.{Refused, Ended}
+use Rattle.emulator.specs.Run.{RunAnswer}
+use Rattle.emulator.specs.Run.{Refused, Ended}
 use Rattle.listing.specs.declared.ListAnswer.{ListAnswer}
 use Rattle.listing.specs.declared.ListAnswer.TheVariants.{Listed, Refused as NotListed}
 use Rattle.numbers.specs.Words.{bits_from, number_in}

@@ -16,8 +16,8 @@ use Rattle.state.proofs.RoundTrip.{two_bytes_lem}
 use Rattle.machine.specs.Shape.{Source, Shape, Control, jump, branch, defer, call, return, act, go, invalid}
 use Rattle.machine.specs.Step.{word_count, shape_at, value_of, result_of, act_state, go_state, may_read, may_write, may_choose, may_call, may_return, fetch_address, Outcome, word_step, Step, stepped}
 use Rattle.machine.proofs.Keeps.{Sound, step_sound, step_event_long}
-use Rattle.emulator.specs.declared.RunAnswer.{RunAnswer}
-use Rattle.emulator.specs.declared.RunAnswer.TheVariants.{Ended}
+use Rattle.emulator.specs.Run.{RunAnswer}
+use Rattle.emulator.specs.Run.{Ended}
 use Rattle.emulator.specs.Run.{pair_length, record_length, record_of, Ran, no_step, after, ran_over, image_fits, state_fits, recording_fits, trace_fits, answer_numbers, RunResult, refused, ended, run_result}
 use Rattle.emulator.specs.Parts.{half_length}
 use Rattle.emulator.specs.Addresses.{pc_in, fetch_in, state_before, IsXec, Pending, Told, AddressesTold}

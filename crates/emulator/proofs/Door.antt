@@ -16,7 +16,7 @@ use Rattle.state.proofs.WellFormed.{well_formed_parts}
 use Rattle.machine.specs.Step.{word_count}
 use Rattle.machine.specs.Parts.{whole}
 use Rattle.emulator.specs.declared.Last.{Last}
-use Rattle.emulator.specs.declared.RunAnswer.TheVariants.{Refused, Ended}
+use Rattle.emulator.specs.Run.{Refused, Ended}
 use Rattle.emulator.specs.Run.{pair_length, pair_count, record_length, Ran, ran_over, image_fits, state_fits, trace_fits, RunResult, yielded, ended, run_result}
 use Rattle.emulator.specs.Parts.{last_state, ran_to, laid_over, Accepted}
 use Rattle.emulator.proofs.Going.{ran_stopped}

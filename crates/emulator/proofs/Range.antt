@@ -15,8 +15,8 @@ use Rattle.state.specs.State.{state_length, EachBelow, loaded, well_formed}
 use Rattle.state.proofs.RoundTrip.{loaded_sized}
 use Rattle.state.proofs.WellFormed.{well_formed_parts}
 use Rattle.machine.proofs.Keeps.{Sound}
-use Rattle.emulator.specs.declared.RunAnswer.{RunAnswer}
-use Rattle.emulator.specs.declared.RunAnswer.TheVariants.{Refused, Ended}
+use Rattle.emulator.specs.Run.{RunAnswer}
+use Rattle.emulator.specs.Run.{Refused, Ended}
 use Rattle.emulator.specs.Run.{pair_count, image_fits, state_fits, recording_fits, trace_fits, RunResult, run_result}
 use Rattle.emulator.proofs.Door.{image_words}
 use Rattle.emulator.proofs.Laws.{count_most, run_sound}

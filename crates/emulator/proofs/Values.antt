@@ -10,7 +10,7 @@ use Rattle.map.specs.Map.{in_set}
 use Rattle.state.specs.State.{reset_bytes, loaded, stored, well_formed}
 use Rattle.machine.specs.Shape.{slot_of, shape_of}
 use Rattle.machine.specs.Step.{result_of, with_overflow, act_state, go_state, stepped}
-use Rattle.emulator.specs.declared.RunAnswer.TheVariants.{Ended}
+use Rattle.emulator.specs.Run.{Ended}
 use Rattle.emulator.specs.Run.{ran_over, image_fits, state_fits, RunResult, run_result, yielded}
 
 image : List ℕ

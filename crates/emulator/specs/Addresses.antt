@@ -5,7 +5,7 @@ use Rattle.state.specs.declared.State.{State}
 use Rattle.state.specs.State.{number_at, EachBelow, loaded}
 use Rattle.machine.specs.Shape.{Source, Shape, go, defer}
 use Rattle.machine.specs.Step.{shape_at, fetch_address}
-use Rattle.emulator.specs.declared.RunAnswer.TheVariants.{Ended}
+use Rattle.emulator.specs.Run.{Ended}
 use Rattle.emulator.specs.Run.{pair_length, record_length, ran_over, run_result}
 
 -- PC before step i, counted from 0, and its fetch address, read from the trace

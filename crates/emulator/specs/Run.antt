@@ -1,12 +1,13 @@
 -- The run ("A run" and "Questions at the door" of document 01).
-use Rattle.std.specs.Prelude.{Bool, ◌&&◌, List, [], ◌∷◌, ◌++◌, ℕ, suc, ◌*◌, ◌/◌, ◌%◌, leb, eqb, length, drop}
+use Rattle.std.specs.Prelude.{Bool, ◌&&◌, List, [], ◌∷◌, ◌++◌, ℕ, suc, ◌*◌, ◌/◌, ◌%◌, leb, eqb, length, drop, Result, Ok, Err}
 use Rattle.choice.specs.Choice.{pick, Question, ask, asked}
 use Rattle.map.specs.Map.{map_length}
 use Rattle.state.specs.declared.State.{State}
 use Rattle.state.specs.State.{state_length, two_bytes, loaded, stored, well_formed}
 use Rattle.machine.specs.Step.{Step, stepped}
-use Rattle.emulator.specs.declared.RunAnswer.{RunAnswer}
-use Rattle.emulator.specs.declared.RunAnswer.TheVariants.{Refused, Ended}
+use Rattle.refusal.specs.declared.Refusal.{Refusal}
+use Rattle.refusal.specs.Refusal.{refusal_number}
+use Rattle.emulator.specs.declared.RunEnd.{RunEnd}
 
 -- "A recording is records of 2 bytes, left then right, one for each step."
 abbrev pub pair_length : ℕ
@@ -72,6 +73,16 @@ abbrev pub door_questions : List ℕ → List ℕ → List ℕ → List ℕ → 
 door_questions image map state recording trace =
     ask 11 (image_fits image) ∷ ask 12 (eqb (length map) map_length) ∷ ask 14 (state_fits state) ∷
     ask 15 (recording_fits recording) ∷ ask 16 (trace_fits recording trace) ∷ []
+
+-- What a run answers: a refusal at the door, or the count of records and the stop number or 0.
+pub data RunAnswer : Type 0 where
+  Refused : ℕ → RunAnswer
+  Ended : ℕ → ℕ → RunAnswer
+
+-- what the code answers
+abbrev pub run_told : Result RunEnd Refusal → RunAnswer
+run_told (Ok end) = Ended end.count end.stop
+run_told (Err refusal) = Refused (refusal_number refusal)
 
 -- The paper's numbers for each case: the refusal; the count of records and the stop number or 0.
 abbrev pub answer_numbers : RunAnswer → List ℕ

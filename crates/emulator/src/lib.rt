@@ -15,11 +15,11 @@ pub const RECORD: usize = 8;
 
 const HALF: usize = 4;
 
-// What a run answers: a refusal at the door, or the count of trace records and the stop number or 0.
-#[derive(Clone, Copy)]
-pub enum RunAnswer {
-    Refused { number: usize },
-    Ended { count: usize, stop: usize },
+// What a run that is not refused answers: the count of trace records and the stop number or 0.
+#[derive(Clone, Copy, Debug, PartialEq, Eq)]
+pub struct RunEnd {
+    pub count: usize,
+    pub stop: usize,
 }
 
 // What the steps of a run leave: the sequencer, how many steps there were, the stop number or 0.
@@ -86,26 +86,27 @@ pub fn steps(
     ensures { ran_to result values.new latches.new returns.new trace.new ≡ laid_over (ran_over image.now map.now recording.now (whole start values.old latches.old returns.old)) trace.old }
 {
     let mut q = start;
-    let mut count = 0;
-    while count < recording.len() / PAIR {
-        let pair = PAIR * count;
-        let left = recording[pair];
-        let right = recording[pair + 1];
-        let at = RECORD * count;
+    let pairs = recording.len() / PAIR;
+    for i in 0..pairs {
+        let bus = [recording[PAIR * i], recording[PAIR * i + 1]];
+        let at = RECORD * i;
         write_addresses(&mut trace[at + HALF..], q);
-        let e = processor::step(image, map, left, right, q, values, latches, returns);
+        let e = processor::step(image, map, bus, q, values, latches, returns);
         write_event(&mut trace[at..], e);
-        count += 1;
         q = sequencer(e);
         if e.stop != 0 {
             return Last {
                 q,
-                count,
+                count: i + 1,
                 stop: e.stop,
             };
         }
     }
-    Last { q, count, stop: 0 }
+    Last {
+        q,
+        count: pairs,
+        stop: 0,
+    }
 }
 
 // Is the image's length even, 2 to 16,384 bytes?

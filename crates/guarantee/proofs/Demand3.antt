@@ -16,7 +16,7 @@ use Rattle.state.proofs.RoundTrip.{store_then_load, reset_stored}
 use Rattle.state.proofs.WellFormed.{formed}
 use Rattle.machine.specs.Step.{step_questions, stepped}
 use Rattle.machine.proofs.Keeps.{step_formed}
-use Rattle.emulator.specs.declared.RunAnswer.TheVariants.{Ended}
+use Rattle.emulator.specs.Run.{Ended}
 use Rattle.emulator.specs.Run.{RunResult, pair_count, image_fits, state_fits, recording_fits, trace_fits, ran_over, refused, ended, run_result}
 use Rattle.emulator.proofs.Door.{image_some, image_words}
 use Rattle.flow.specs.Flow.{Closed}

@@ -18,8 +18,8 @@ use Rattle.machine.specs.Step.{word_count, Step, stepped}
 use Rattle.machine.specs.Unseen.{EqualBut}
 use Rattle.machine.proofs.Keeps.{Sound, step_sound}
 use Rattle.machine.proofs.Unseen.{step_unseen}
-use Rattle.emulator.specs.declared.RunAnswer.{RunAnswer}
-use Rattle.emulator.specs.declared.RunAnswer.TheVariants.{Refused, Ended}
+use Rattle.emulator.specs.Run.{RunAnswer}
+use Rattle.emulator.specs.Run.{Refused, Ended}
 use Rattle.emulator.specs.Run.{pair_length, pair_count, record_length, Ran, after, ran_over, written_over, state_fits, door_questions, RunResult, refused, ended, run_result}
 use Rattle.emulator.proofs.Door.{image_words}
 use Rattle.emulator.proofs.Laws.{trace_length, two_below, run_sound, refused_run, let_in_run}

@@ -5,7 +5,7 @@ use Rattle.map.specs.Map.{map_length}
 use Rattle.state.specs.declared.State.{State}
 use Rattle.state.specs.State.{EachBelow, loaded, stored, reset_bytes}
 use Rattle.machine.specs.Step.{step_questions, stepped}
-use Rattle.emulator.specs.declared.RunAnswer.TheVariants.{Refused, Ended}
+use Rattle.emulator.specs.Run.{Refused, Ended}
 use Rattle.emulator.specs.Run.{pair_count, image_fits, recording_fits, trace_fits, run_result}
 use Rattle.transfer.specs.Findings.{NoFinding}
 use Rattle.admission.specs.declared.AdmitAnswer.TheVariants.{Admitted}

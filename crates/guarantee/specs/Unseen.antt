@@ -4,7 +4,7 @@ use Rattle.std.specs.Prelude.{◌≡◌, ◌≢◌, List, [], ◌∷◌, ℕ, �
 use Rattle.choice.specs.Choice.{first_no}
 use Rattle.map.specs.Map.{NothingReadable}
 use Rattle.state.specs.State.{state_length, EachBelow, reset_bytes, reset_state}
-use Rattle.emulator.specs.declared.RunAnswer.TheVariants.{Ended}
+use Rattle.emulator.specs.Run.{Ended}
 use Rattle.emulator.specs.Run.{pair_length, door_questions, RunResult, run_result}
 use Rattle.admission.specs.declared.AdmitAnswer.TheVariants.{Admitted}
 use Rattle.admission.specs.Admission.{admit_result}

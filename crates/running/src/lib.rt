@@ -1,13 +1,15 @@
 // The run: the questions at the door, the steps, the state stored.
 #![tactic(auto)]
 
-ghost use Rattle.std.specs.Prelude.{◌≡◌, length};
-ghost use Rattle.state.specs.State.{state_length};
-ghost use Rattle.emulator.specs.Run.{ran_over, trace_fits, yielded, ended, run_result};
+ghost use Rattle.std.specs.Prelude.{◌≡◌, ◌<◌, true, false, length, Ok, IfOk, IfErr};
+ghost use Rattle.refusal.specs.declared.Refusal.{Refusal};
+ghost use Rattle.state.specs.State.{state_length, EachBelow, loaded};
+ghost use Rattle.emulator.specs.Run.{ran_over, state_fits, trace_fits, run_told, yielded, ended, run_result};
 ghost use Rattle.emulator.specs.Parts.{last_state, Accepted};
 
-use emulator::{Last, PAIR, RECORD, RunAnswer};
+use emulator::{Last, PAIR, RECORD, RunEnd};
 use machine::Sequencer;
+use refusal::Refusal;
 use state::State;
 
 // The state that the steps of a run leave.
@@ -35,9 +37,9 @@ fn run_from(
     state: &mut [u8],
     recording: &[u8],
     trace: &mut [u8],
-) -> RunAnswer
+) -> RunEnd
     requires { Accepted image.now map.now recording.now trace.old s × (s.stop ≡ 0) × (length state.old ≡ state_length) }
-    ensures { yielded result state.new trace.new ≡ ended trace.old (ran_over image.now map.now recording.now s) }
+    ensures { yielded (run_told (Ok result)) state.new trace.new ≡ ended trace.old (ran_over image.now map.now recording.now s) }
 {
     let start = Sequencer {
         pc: s.pc,
@@ -60,10 +62,26 @@ fn run_from(
     );
     let after = last_state(last, values, latches, returns);
     storing::store(after, state);
-    RunAnswer::Ended {
+    RunEnd {
         count: last.count,
         stop: last.stop,
     }
+}
+
+// The state of 36 bytes that are well formed.
+fn state_of(bytes: &[u8]) -> Result<State, Refusal>
+    ensures formed { IfOk result (λ s. (state_fits bytes.now ≡ true) × (length bytes.now ≡ state_length) × (s ≡ loaded bytes.now)) }
+    ensures bytes { EachBelow 256 bytes.now }
+    ensures refusal { IfErr result (λ e. (state_fits bytes.now ≡ false) × (e ≡ Refusal.State)) }
+{
+    let Ok(bytes) = <&[u8; state::LENGTH]>::try_from(bytes) else {
+        return Err(Refusal::State);
+    };
+    let s = state::load(bytes);
+    if !state::well_formed(s) {
+        return Err(Refusal::State);
+    }
+    Ok(s)
 }
 
 // Has the trace a record for each pair? Four times a recording's length may be no usize.
@@ -81,31 +99,25 @@ pub fn run(
     state: &mut [u8],
     recording: &[u8],
     trace: &mut [u8],
-) -> RunAnswer
-    ensures { yielded result state.new trace.new ≡ run_result image.now map.now state.old recording.now trace.old }
+) -> Result<RunEnd, Refusal>
+    ensures { yielded (run_told result) state.new trace.new ≡ run_result image.now map.now state.old recording.now trace.old }
 {
     if !emulator::image_fits(image) {
-        return RunAnswer::Refused { number: 11 };
+        return Err(Refusal::Image);
     }
     if map.len() != map::LENGTH {
-        return RunAnswer::Refused { number: 12 };
+        return Err(Refusal::Map);
     }
-    if state.len() != state::LENGTH {
-        return RunAnswer::Refused { number: 14 };
-    }
-    let s = state::load(state);
-    if !state::well_formed(s) {
-        return RunAnswer::Refused { number: 14 };
-    }
+    let s = state_of(state)?;
     if recording.len() % PAIR != 0 {
-        return RunAnswer::Refused { number: 15 };
+        return Err(Refusal::Recording);
     }
     if !trace_fits(recording, trace) {
-        return RunAnswer::Refused { number: 16 };
+        return Err(Refusal::Trace);
     }
     let stop = s.stop;
     if stop != 0 {
-        return RunAnswer::Ended { count: 0, stop };
+        return Ok(RunEnd { count: 0, stop });
     }
-    run_from(image, map, s, state, recording, trace)
+    Ok(run_from(image, map, s, state, recording, trace))
 }

@@ -1,20 +1,21 @@
 // The machine's state stored into its 36 bytes.
 #![tactic(auto)]
 
-ghost use Rattle.std.specs.Prelude.{◌≡◌};
-ghost use Rattle.state.specs.State.{stored};
+ghost use Rattle.std.specs.Prelude.{◌≡◌, length};
+ghost use Rattle.state.specs.State.{state_length, stored};
 
 use state::State;
 
 // One literal, in the order in which `stored` lists the bytes: each stands beside its place.
 #[tactic(auto, unfolding(state::specs::State::stored))]
-pub fn store(s: State, bytes: &mut [u8; state::LENGTH])
+pub fn store(s: State, bytes: &mut [u8])
+    requires { length bytes.old ≡ state_length }
     ensures { bytes.new ≡ stored s }
 {
     let v = s.values;
     let l = s.latches;
     let r = s.returns;
-    *bytes = [
+    bytes.copy_from_slice(&[
         (s.pc % 256) as u8,
         (s.pc / 256 % 256) as u8,
         (s.flag % 256) as u8,
@@ -51,5 +52,5 @@ pub fn store(s: State, bytes: &mut [u8; state::LENGTH])
         (r[7] % 256) as u8,
         (r[7] / 256 % 256) as u8,
         (s.stop % 256) as u8,
-    ];
+    ]);
 }
