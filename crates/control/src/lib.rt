@@ -7,7 +7,7 @@ ghost use Rattle.machine.specs.Step.{in_page, word_step};
 ghost use Rattle.machine.specs.Parts.{whole, outcome, go_effect, defer_effect, Ready};
 ghost use Rattle.control.specs.Pages.{page_size, branch_shape, defer_shape};
 
-use machine::{Effect, Sequencer};
+use machine::{Effect, Event, Sequencer, Stop};
 
 // A page has 256 addresses, or 32 for a word that reads a bank.
 #[derive(Clone, Copy, PartialEq, Eq)]
@@ -42,14 +42,13 @@ pub fn go_to(pc: usize, depth: usize) -> Effect
     ensures { result ≡ go_effect pc depth }
 {
     Effect {
-        pc: pc,
-        flag: 0,
-        pending: 0,
-        depth: depth,
-        kind: 0,
-        address: 0,
-        written: 0,
-        stop: 0,
+        q: Sequencer {
+            pc,
+            flag: 0,
+            pending: 0,
+            depth,
+        },
+        event: Event::Quiet,
     }
 }
 
@@ -58,14 +57,12 @@ fn defer_to(q: Sequencer, pending: usize) -> Effect
     ensures { result ≡ defer_effect q pending }
 {
     Effect {
-        pc: q.pc,
-        flag: 1,
-        pending: pending,
-        depth: q.depth,
-        kind: 0,
-        address: 0,
-        written: 0,
-        stop: 0,
+        q: Sequencer {
+            flag: 1,
+            pending,
+            ..q
+        },
+        event: Event::Quiet,
     }
 }
 
@@ -84,7 +81,7 @@ pub fn xec(map: &[u8], bus: [u8; 2], w: Paged, q: Sequencer, values: &[u8; 11]) 
     ensures { (a b : List ℕ) → outcome result values.now a b ≡ word_step map.now (defer_shape w) bus (whole q values.now a b) }
 {
     if !machine::act::may_read(map, values, w.s) {
-        return machine::stop(q, 23);
+        return q.stopped(Stop::Unreadable);
     }
     let x = usize::from(machine::act::operand(values, bus, w.s, 0, w.l));
     defer_to(q, in_page(w.page, q.pc, usize::from(w.i) + x))
@@ -96,7 +93,7 @@ pub fn nzt(map: &[u8], bus: [u8; 2], w: Paged, q: Sequencer, values: &[u8; 11]) 
     ensures { (a b : List ℕ) → outcome result values.now a b ≡ word_step map.now (branch_shape w) bus (whole q values.now a b) }
 {
     if !machine::act::may_read(map, values, w.s) {
-        return machine::stop(q, 23);
+        return q.stopped(Stop::Unreadable);
     }
     let x = machine::act::operand(values, bus, w.s, 0, w.l);
     if x == 0 {
@@ -112,7 +109,7 @@ pub fn call(i: u8, q: Sequencer, values: &[u8; 11], returns: &mut [u16; 8]) -> E
 {
     let depth = q.depth;
     if depth == state::PLACES {
-        return machine::stop(q, 26);
+        return q.stopped(Stop::Full);
     }
     returns[depth] = (q.pc + 1) as u16;
     go_to(usize::from(values[0]) * 256 + usize::from(i), depth + 1)
@@ -125,7 +122,7 @@ pub fn ret(q: Sequencer, returns: &mut [u16; 8]) -> Effect
 {
     let depth = q.depth;
     if depth == 0 {
-        return machine::stop(q, 27);
+        return q.stopped(Stop::Empty);
     }
     let at = depth - 1;
     let pc = usize::from(returns[at]);

@@ -8,7 +8,7 @@ ghost use Rattle.machine.specs.Step.{value_of, with_overflow, may_read, word_ste
 ghost use Rattle.machine.specs.Parts.{whole, outcome, act_effect, operation_number, masked_into, delivered, taken_source, delivery_source, shape_of_delivery, Ready};
 
 use machine::act::{Argument, Delivery, Operation};
-use machine::{Effect, Sequencer};
+use machine::{Effect, Event, Sequencer, Stop};
 
 // ADD alone sets OVF.
 #[tactic(auto, unfolding(machine::specs::Step::with_overflow))]
@@ -21,19 +21,18 @@ fn set_overflow(op: Operation, aux: u8, x: u8, values: &mut [u8; 11])
 }
 
 // An act that has gone on to PC + 1, with its trace record.
-fn went(q: Sequencer, kind: usize, address: usize, written: usize) -> Effect
+fn went(q: Sequencer, event: Event) -> Effect
     requires { q.pc < 8192 }
-    ensures { result ≡ act_effect q kind address written }
+    ensures { result ≡ act_effect q event }
 {
     Effect {
-        pc: q.pc + 1,
-        flag: 0,
-        pending: 0,
-        depth: q.depth,
-        kind: kind,
-        address: address,
-        written: written,
-        stop: 0,
+        q: Sequencer {
+            pc: q.pc + 1,
+            flag: 0,
+            pending: 0,
+            depth: q.depth,
+        },
+        event,
     }
 }
 
@@ -54,14 +53,20 @@ fn to_slot(
     if k < state::ADDRESS {
         set_overflow(op, aux, x, values);
         values[k] = y;
-        return went(q, 0, 0, 0);
+        return went(q, Event::Quiet);
     }
     if !map::listed(map, k - state::ADDRESS, usize::from(y)) {
-        return machine::stop(q, 25);
+        return q.stopped(Stop::Unlisted);
     }
     set_overflow(op, aux, x, values);
     values[k] = y;
-    went(q, k + 1 - state::ADDRESS, usize::from(values[k]), 0)
+    went(
+        q,
+        Event::Address {
+            bank: k - state::ADDRESS,
+            address: values[k],
+        },
+    )
 }
 
 // To a bank: merged into its latch, which is then the byte written at its address.
@@ -81,7 +86,7 @@ fn to_latch(
     let aux = values[0];
     let bank = d / 8 % 2;
     if !map::writable(map, bank, usize::from(values[state::ADDRESS + bank])) {
-        return machine::stop(q, 24);
+        return q.stopped(Stop::Unwritable);
     }
     let summand = machine::act::masked(op, x, l, d);
     let y = machine::act::result(op, aux, summand);
@@ -89,9 +94,11 @@ fn to_latch(
     latches[bank] = field::merge(latches[bank], y, d % 8, l);
     went(
         q,
-        3 + bank,
-        usize::from(values[state::ADDRESS + bank]),
-        usize::from(latches[bank]),
+        Event::Data {
+            bank,
+            address: values[state::ADDRESS + bank],
+            data: latches[bank],
+        },
     )
 }
 
@@ -155,7 +162,7 @@ pub fn act(
     ensures { (t : List ℕ) → outcome result values.new latches.new t ≡ word_step map.now (shape_of_delivery a) bus (whole q values.old latches.old t) }
 {
     if !may_take(map, values, a) {
-        return machine::stop(q, 23);
+        return q.stopped(Stop::Unreadable);
     }
     let x = argument(values, bus, a);
     deliver(map, a.op, x, a.d, a.l, q, values, latches)

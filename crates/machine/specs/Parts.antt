@@ -6,6 +6,10 @@ use Rattle.map.specs.Map.{map_length}
 use Rattle.state.specs.declared.State.{State}
 use Rattle.state.specs.State.{stack_places}
 use Rattle.machine.specs.declared.Sequencer.{Sequencer}
+use Rattle.machine.specs.declared.Stop.{Stop}
+use Rattle.machine.specs.declared.Stop.TheVariants.{Outside, Invalid, Unreadable, Unwritable, Unlisted, Full, Empty}
+use Rattle.machine.specs.declared.Event.{Event}
+use Rattle.machine.specs.declared.Event.TheVariants.{Quiet, Address, Data, Stopped}
 use Rattle.machine.specs.declared.Effect.{Effect}
 use Rattle.machine.specs.declared.act.Operation.{Operation}
 use Rattle.machine.specs.declared.act.Operation.TheVariants.{Move, Add, And, Xor}
@@ -33,65 +37,70 @@ whole q values latches returns =
 abbrev pub fetch_of : Sequencer → ℕ
 fetch_of q = pick (eqb q.flag 1) q.pending q.pc
 
+-- the number of a stop: the step question that got the first no
+abbrev pub stop_number : Stop → ℕ
+stop_number Outside = 21
+stop_number Invalid = 22
+stop_number Unreadable = 23
+stop_number Unwritable = 24
+stop_number Unlisted = 25
+stop_number Full = 26
+stop_number Empty = 27
+
+-- "The trace": the kind, the bank's address, the data byte and the stop number of what a word does
+abbrev pub event_kind : Event → ℕ
+event_kind Quiet = 0
+event_kind (Address bank address) = 1 + bank
+event_kind (Data bank address byte) = 3 + bank
+event_kind (Stopped why) = 5
+
+abbrev pub event_address : Event → ℕ
+event_address Quiet = 0
+event_address (Address bank address) = address
+event_address (Data bank address byte) = address
+event_address (Stopped why) = 0
+
+abbrev pub event_written : Event → ℕ
+event_written Quiet = 0
+event_written (Address bank address) = 0
+event_written (Data bank address byte) = byte
+event_written (Stopped why) = 0
+
+abbrev pub event_stop : Event → ℕ
+event_stop Quiet = 0
+event_stop (Address bank address) = 0
+event_stop (Data bank address byte) = 0
+event_stop (Stopped why) = stop_number why
+
 -- the outcome of a word from what the code leaves
 abbrev pub outcome : Effect → List ℕ → List ℕ → List ℕ → Outcome
 outcome e values latches returns =
     record {
       state =
           record {
-            pc = e.pc;
-            flag = e.flag;
-            pending = e.pending;
+            pc = e.q.pc;
+            flag = e.q.flag;
+            pending = e.q.pending;
             values = values;
             latches = latches;
-            depth = e.depth;
+            depth = e.q.depth;
             returns = returns;
-            stop = e.stop;
+            stop = event_stop e.event;
           };
-      event = e.kind ∷ e.address ∷ e.written ∷ e.stop ∷ [];
+      event = event_kind e.event ∷ event_address e.event ∷ event_written e.event ∷ event_stop e.event ∷ [];
     }
 
 -- an act that has gone on to PC + 1
-abbrev pub act_effect : Sequencer → ℕ → ℕ → ℕ → Effect
-act_effect q kind address written =
-    record {
-      pc = q.pc + 1;
-      flag = 0;
-      pending = 0;
-      depth = q.depth;
-      kind = kind;
-      address = address;
-      written = written;
-      stop = 0;
-    }
+abbrev pub act_effect : Sequencer → Event → Effect
+act_effect q event = record { q = record { pc = q.pc + 1; flag = 0; pending = 0; depth = q.depth }; event = event }
 
 -- a word that has directed PC
 abbrev pub go_effect : ℕ → ℕ → Effect
-go_effect pc depth =
-    record {
-      pc = pc;
-      flag = 0;
-      pending = 0;
-      depth = depth;
-      kind = 0;
-      address = 0;
-      written = 0;
-      stop = 0;
-    }
+go_effect pc depth = record { q = record { pc = pc; flag = 0; pending = 0; depth = depth }; event = Quiet }
 
 -- an XEC
 abbrev pub defer_effect : Sequencer → ℕ → Effect
-defer_effect q pending =
-    record {
-      pc = q.pc;
-      flag = 1;
-      pending = pending;
-      depth = q.depth;
-      kind = 0;
-      address = 0;
-      written = 0;
-      stop = 0;
-    }
+defer_effect q pending = record { q = record { pc = q.pc; flag = 1; pending = pending; depth = q.depth }; event = Quiet }
 
 -- a page has 256 addresses or 32
 abbrev pub IsPage : ℕ → Type 0

@@ -6,7 +6,7 @@ pub mod act;
 
 ghost use Rattle.std.specs.Prelude.{◌≡◌, ℕ, List};
 ghost use Rattle.machine.specs.Step.{came_to_stop};
-ghost use Rattle.machine.specs.Parts.{whole, outcome};
+ghost use Rattle.machine.specs.Parts.{whole, outcome, stop_number};
 
 // PC, pending flag and address, depth.
 #[derive(Clone, Copy)]
@@ -17,31 +17,59 @@ pub struct Sequencer {
     pub depth: usize,
 }
 
-// What a word leaves: the sequencer, and what the trace tells of it (kind, address, data written, stop number).
-#[derive(Clone, Copy)]
-pub struct Effect {
-    pub pc: usize,
-    pub flag: usize,
-    pub pending: usize,
-    pub depth: usize,
-    pub kind: usize,
-    pub address: usize,
-    pub written: usize,
-    pub stop: usize,
+// Why a machine stops: the first step question that gets a no.
+#[derive(Clone, Copy, PartialEq, Eq)]
+pub enum Stop {
+    Outside,
+    Invalid,
+    Unreadable,
+    Unwritable,
+    Unlisted,
+    Full,
+    Empty,
 }
 
-// A stop changes nothing but the stop number.
-pub fn stop(q: Sequencer, number: usize) -> Effect
-    ensures { (v l s : List ℕ) → outcome result v l s ≡ came_to_stop (whole q v l s) number }
-{
-    Effect {
-        pc: q.pc,
-        flag: q.flag,
-        pending: q.pending,
-        depth: q.depth,
-        kind: 5,
-        address: 0,
-        written: 0,
-        stop: number,
+impl Stop {
+    // The paper's number.
+    pub fn number(self) -> u8
+        ensures { result ≡ stop_number self }
+    {
+        match self {
+            Stop::Outside => 21,
+            Stop::Invalid => 22,
+            Stop::Unreadable => 23,
+            Stop::Unwritable => 24,
+            Stop::Unlisted => 25,
+            Stop::Full => 26,
+            Stop::Empty => 27,
+        }
+    }
+}
+
+// What the trace tells of a word: nothing, a bank's address chosen, data written at it, or a stop.
+#[derive(Clone, Copy)]
+pub enum Event {
+    Quiet,
+    Address { bank: usize, address: u8 },
+    Data { bank: usize, address: u8, data: u8 },
+    Stopped(Stop),
+}
+
+// What a word leaves.
+#[derive(Clone, Copy)]
+pub struct Effect {
+    pub q: Sequencer,
+    pub event: Event,
+}
+
+impl Sequencer {
+    // A stop changes nothing but the stop number.
+    pub fn stopped(self, why: Stop) -> Effect
+        ensures { (v l s : List ℕ) → outcome result v l s ≡ came_to_stop (whole self v l s) (stop_number why) }
+    {
+        Effect {
+            q: self,
+            event: Event::Stopped(why),
+        }
     }
 }

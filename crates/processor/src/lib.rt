@@ -9,7 +9,7 @@ ghost use Rattle.forms.specs.Forms.{shape_is, FormFits};
 ghost use Rattle.processor.specs.Fetching.{Fetches, Runs};
 
 use forms::Form;
-use machine::{Effect, Sequencer};
+use machine::{Effect, Sequencer, Stop};
 use word::Word;
 
 // Executes a word at the sequencer's PC.
@@ -33,7 +33,7 @@ fn execute(
         Form::Defer(w) => control::xec(map, bus, w, q, values),
         Form::Call { i } => control::call(i, q, values, returns),
         Form::Return => control::ret(q, returns),
-        Form::Invalid => machine::stop(q, 22),
+        Form::Invalid => q.stopped(Stop::Invalid),
     }
 }
 
@@ -86,11 +86,11 @@ pub fn step(
 {
     let at = fetch_address(q);
     if image.len() / 2 <= at {
-        return machine::stop(q, 21);
+        return q.stopped(Stop::Outside);
     }
     let decoded = word::decode_bytes(image[2 * at], image[2 * at + 1]);
     let Some(word) = fetched_of(decoded) else {
-        return machine::stop(q, 22);
+        return q.stopped(Stop::Invalid);
     };
     execute(forms::form_of(word), map, bus, q, values, latches, returns)
 }

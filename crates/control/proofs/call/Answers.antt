@@ -7,7 +7,7 @@ use Rattle.control.proofs.call.Goals as goal
 pub returns-then-depth-eq-PLACES : goal.returns-then-depth-eq-PLACES
 returns-then-depth-eq-PLACES c = λ map bus l.
     let a = c.args in
-    c.stop.ensures a.values.now l a.returns.now ∙ full map bus a.q a.values.now l a.returns.now a.i (omega arith)
+    c.stopped.ensures a.values.now l a.returns.now ∙ full map bus a.q a.values.now l a.returns.now a.i (omega arith)
 
 pub returns : goal.returns
 returns c = λ map bus l.

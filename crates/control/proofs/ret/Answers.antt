@@ -6,7 +6,7 @@ use Rattle.control.proofs.ret.Goals as goal
 pub returns-then-depth-eq0 : goal.returns-then-depth-eq0
 returns-then-depth-eq0 c = λ map bus v l.
     let a = c.args in
-    c.stop.ensures v l a.returns.now ∙ empty map bus a.q v l a.returns.now (omega arith)
+    c.stopped.ensures v l a.returns.now ∙ empty map bus a.q v l a.returns.now (omega arith)
 
 pub returns : goal.returns
 returns c = λ map bus v l.

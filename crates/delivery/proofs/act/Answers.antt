@@ -9,7 +9,7 @@ use Rattle.delivery.proofs.act.Goals as goal
 pub returns-then-not-may_take : goal.returns-then-not-may_take
 returns-then-not-may_take c = λ t.
     let a = c.args in
-    c.stop.ensures a.values.now a.latches.now t ∙ unreadable a.map.now a.bus (operation_number a.a.op) (delivery_source a.a) (target_of a.a.d a.a.l) a.q a.values.now a.latches.now t (sym c.may_take.ensures ∙ c.if-not-may_take.true)
+    c.stopped.ensures a.values.now a.latches.now t ∙ unreadable a.map.now a.bus (operation_number a.a.op) (delivery_source a.a) (target_of a.a.d a.a.l) a.q a.values.now a.latches.now t (sym c.may_take.ensures ∙ c.if-not-may_take.true)
 
 pub returns : goal.returns
 returns c = λ t.

@@ -5,4 +5,4 @@ use Rattle.processor.proofs.execute.Goals as goal
 pub returns-in-Invalid : goal.returns-in-Invalid
 returns-in-Invalid c =
     let a = c.args in
-    retold a.map.now a.bus _ c.in-Invalid.is (c.stop.ensures a.values.now a.latches.now a.returns.now)
+    retold a.map.now a.bus _ c.in-Invalid.is (c.stopped.ensures a.values.now a.latches.now a.returns.now)

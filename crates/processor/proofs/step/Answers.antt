@@ -15,7 +15,7 @@ pub returns-then-image-at : goal.returns-then-image-at
 returns-then-image-at c =
     let a = c.args in
     let s = whole a.q a.values.now a.latches.now a.returns.now in
-    ap (step_from s) (c.stop.ensures _ _ _) ∙ outside a.image.now a.map.now a.bus s c.fetch_address-at.result c.fetch_address-at.ensures c.if-image-at.true
+    ap (step_from s) (c.stopped.ensures _ _ _) ∙ outside a.image.now a.map.now a.bus s c.fetch_address-at.result c.fetch_address-at.ensures c.if-image-at.true
 
 pub returns-in_default : goal.returns-in_default
 returns-in_default c =
@@ -23,7 +23,7 @@ returns-in_default c =
     let fetch = c.fetch_address-at in
     let none = subst (Fetches c.decode_bytes-decoded.result) c.in_default.is c.fetched_of.ensures in
     let s = whole a.q a.values.now a.latches.now a.returns.now in
-    ap (step_from s) (c.stop-in_default.ensures _ _ _) ∙ nothing a.image.now a.map.now a.bus s fetch.result fetch.ensures c.if-image-at.false (no_shape a.image.now fetch.result c.decode_bytes-decoded.ensures none)
+    ap (step_from s) (c.stopped-in_default.ensures _ _ _) ∙ nothing a.image.now a.map.now a.bus s fetch.result fetch.ensures c.if-image-at.false (no_shape a.image.now fetch.result c.decode_bytes-decoded.ensures none)
 
 pub form_of-requires : goal.form_of-requires
 form_of-requires c =
