@@ -17,8 +17,8 @@ use Rattle.facts.proofs.Records.{part, part_at, same_table}
 use Rattle.transfer.specs.Passes.{table_length, least_table, sweeps_of}
 use Rattle.transfer.specs.Findings.{finding_at, NoFinding}
 use Rattle.transfer.proofs.TableLaws.{least_table_lem}
-use Rattle.admission.specs.declared.AdmitAnswer.{AdmitAnswer}
-use Rattle.admission.specs.declared.AdmitAnswer.TheVariants.{Refused, Admitted}
+use Rattle.admission.specs.Admission.{AdmitAnswer}
+use Rattle.admission.specs.Admission.{Refused, Admitted}
 use Rattle.admission.specs.Admission.{filled_table, verdict_of, AdmitResult, resulting, admit_result, Cleared}
 use Rattle.admission.proofs.Same.{SameCells, finding_same}
 use Rattle.admission.proofs.Marking.{Marking, marked_all}

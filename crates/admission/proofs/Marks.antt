@@ -15,7 +15,7 @@ use Rattle.callers.specs.Callers.{Held}
 use Rattle.callers.proofs.Points.{past_all}
 use Rattle.transfer.specs.Passes.{point_at}
 use Rattle.transfer.specs.Findings.{finding_at}
-use Rattle.admission.specs.declared.AdmitAnswer.TheVariants.{Admitted, Found}
+use Rattle.admission.specs.Admission.{Admitted, Found}
 use Rattle.admission.specs.declared.Named.{Named}
 use Rattle.admission.specs.Admission.{with_findings, verdict_of}
 use Rattle.admission.proofs.Marking.{Marking, marking_begins, marking_ends, marking_fine, marking_finding, marking_goes}

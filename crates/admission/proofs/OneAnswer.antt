@@ -15,8 +15,8 @@ use Rattle.machine.specs.Step.{word_count}
 use Rattle.emulator.specs.Run.{image_fits}
 use Rattle.emulator.proofs.Door.{image_some}
 use Rattle.transfer.specs.Passes.{table_length, least_table}
-use Rattle.admission.specs.declared.AdmitAnswer.{AdmitAnswer}
-use Rattle.admission.specs.declared.AdmitAnswer.TheVariants.{Refused, Admitted, Found}
+use Rattle.admission.specs.Admission.{AdmitAnswer}
+use Rattle.admission.specs.Admission.{Refused, Admitted, Found}
 use Rattle.admission.specs.Admission.{filled_table, verdict_of, admit_questions, AdmitResult, resulting, admit_result}
 use Rattle.admission.specs.Lowest.{finding_in, Lowest, Says, Holds, NoFreedom}
 use Rattle.admission.proofs.Lowest.{Names, names_one, names_same}

@@ -18,8 +18,8 @@ use Rattle.facts.specs.Record.{depths}
 use Rattle.callers.specs.Callers.{Held}
 use Rattle.transfer.specs.Passes.{table_length, sweep_bound, least_table, sweeps_of}
 use Rattle.transfer.proofs.TableLaws.{least_table_lem}
-use Rattle.admission.specs.declared.AdmitAnswer.{AdmitAnswer}
-use Rattle.admission.specs.declared.AdmitAnswer.TheVariants.{Refused}
+use Rattle.admission.specs.Admission.{AdmitAnswer}
+use Rattle.admission.specs.Admission.{Refused}
 use Rattle.admission.specs.declared.Answered.{Answered}
 use Rattle.admission.specs.Admission.{with_findings, filled_table, verdict_of, admit_questions, AdmitResult, resulting, admit_result}
 

@@ -12,8 +12,8 @@ use Rattle.emulator.specs.Run.{image_fits}
 use Rattle.facts.specs.Record.{depths}
 use Rattle.transfer.specs.Passes.{point_at, table_length, least_table}
 use Rattle.transfer.proofs.Numbers.{finding_number}
-use Rattle.admission.specs.declared.AdmitAnswer.{AdmitAnswer}
-use Rattle.admission.specs.declared.AdmitAnswer.TheVariants.{Refused, Admitted, Found}
+use Rattle.admission.specs.Admission.{AdmitAnswer}
+use Rattle.admission.specs.Admission.{Refused, Admitted, Found}
 use Rattle.admission.specs.Admission.{AdmitResult, verdict_of, admit_result}
 use Rattle.admission.proofs.Lowest.{Names, lowest_some}
 use Rattle.admission.proofs.Verdict.{cell_finding, verdict_names}

@@ -16,8 +16,8 @@ use Rattle.transfer.specs.Passes.{point_at}
 use Rattle.transfer.specs.Findings.{finding_at, first_finding, NoFinding}
 use Rattle.transfer.proofs.First.{first}
 use Rattle.transfer.proofs.Membership.{same_or}
-use Rattle.admission.specs.declared.AdmitAnswer.{AdmitAnswer}
-use Rattle.admission.specs.declared.AdmitAnswer.TheVariants.{Admitted, Found}
+use Rattle.admission.specs.Admission.{AdmitAnswer}
+use Rattle.admission.specs.Admission.{Admitted, Found}
 use Rattle.admission.specs.declared.Named.{Named}
 use Rattle.admission.specs.Admission.{verdict_of}
 use Rattle.admission.specs.Lowest.{Clear, Lowest}

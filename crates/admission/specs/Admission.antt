@@ -1,5 +1,5 @@
 -- Admission ("Admission fills the table" and "Questions at the door" of document 01).
-use Rattle.std.specs.Prelude.{◌≡◌, true, List, [], ◌∷◌, ℕ, zero, suc, ◌*◌, ◌/◌, ◌%◌, ltb, eqb, length}
+use Rattle.std.specs.Prelude.{◌≡◌, true, List, [], ◌∷◌, ℕ, zero, suc, ◌*◌, ◌/◌, ◌%◌, ltb, eqb, length, Option, Some, None, Result, Ok, Err, ⊤}
 use Rattle.choice.specs.Choice.{pick, Question, ask, asked}
 use Rattle.map.specs.Map.{map_length}
 use Rattle.machine.specs.Step.{word_count}
@@ -7,8 +7,10 @@ use Rattle.emulator.specs.Run.{image_fits}
 use Rattle.facts.specs.Record.{depths, record_of, cell_at, put_record}
 use Rattle.transfer.specs.Passes.{table_length, least_table, sweeps_of}
 use Rattle.transfer.specs.Findings.{finding_at, first_finding, NoFinding}
-use Rattle.admission.specs.declared.AdmitAnswer.{AdmitAnswer}
-use Rattle.admission.specs.declared.AdmitAnswer.TheVariants.{Refused, Admitted, Found}
+use Rattle.refusal.specs.declared.Refusal.{Refusal}
+use Rattle.refusal.specs.Refusal.{refusal_number}
+use Rattle.findings.specs.declared.Failure.{Failure}
+use Rattle.findings.specs.Findings.{fault_number}
 
 -- "A finding": byte 1 of each record. From cell i on, the records of n cells of a table get their findings.
 unfoldable pub with_findings : List ℕ → List ℕ → List ℕ → List ℕ → ℕ → ℕ → List ℕ
@@ -19,6 +21,23 @@ with_findings image map table marked i (suc n) =
 -- the table that admission fills: the least table with its findings
 unfoldable pub filled_table : List ℕ → List ℕ → List ℕ
 filled_table image map = with_findings image map (least_table image) (least_table image) 0 (depths * word_count image)
+
+-- What admission answers: a refusal at the door; admitted; or a finding with its depth and address.
+pub data AdmitAnswer : Type 0 where
+  Refused : ℕ → AdmitAnswer
+  Admitted : AdmitAnswer
+  Found : ℕ → ℕ → ℕ → AdmitAnswer
+
+-- what the code answers
+abbrev pub admit_told : Result (Option Failure) Refusal → AdmitAnswer
+admit_told (Ok None) = Admitted
+admit_told (Ok (Some failure)) = Found (fault_number failure.fault) failure.depth failure.address
+admit_told (Err refusal) = Refused (refusal_number refusal)
+
+-- what the door answers: 0 where no question gets a no
+abbrev pub door_number : Result ⊤ Refusal → ℕ
+door_number (Ok open) = 0
+door_number (Err refusal) = refusal_number refusal
 
 -- "With no finding the program is admitted; else the answer is one finding with its depth and address": the first in the
 -- table's order, as 2026-02 of document 02 asks. Lowest.antt says so of the table's bytes.

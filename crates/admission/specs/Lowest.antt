@@ -6,8 +6,8 @@ use Rattle.state.specs.State.{EachBelow}
 use Rattle.machine.specs.Step.{word_count}
 use Rattle.facts.specs.Record.{record_size, depths}
 use Rattle.transfer.specs.Passes.{point_at}
-use Rattle.admission.specs.declared.AdmitAnswer.{AdmitAnswer}
-use Rattle.admission.specs.declared.AdmitAnswer.TheVariants.{Refused, Admitted, Found}
+use Rattle.admission.specs.Admission.{AdmitAnswer}
+use Rattle.admission.specs.Admission.{Refused, Admitted, Found}
 use Rattle.admission.specs.Admission.{admit_questions, admit_result}
 
 -- The finding that stands in a table at a depth and an address: byte 1 of that cell's record.

@@ -1,134 +1,129 @@
 // Admission: a program is read before it runs. Fills the lent table of facts and answers.
 #![tactic(auto)]
 
-ghost use Rattle.std.specs.Prelude.{◌≡◌, ◌*◌, ◌≤◌, ◌<◌, eqb, length};
-ghost use Rattle.choice.specs.Choice.{pick, first_no};
+ghost use Rattle.std.specs.Prelude.{◌≡◌, ◌*◌, ◌≤◌, ◌<◌, length, Some, Ok, Err, IfSome, MatchOption};
+ghost use Rattle.choice.specs.Choice.{first_no};
 ghost use Rattle.map.specs.Map.{map_length};
 ghost use Rattle.machine.specs.Step.{word_count};
 ghost use Rattle.facts.specs.Record.{depths, record_of, cell_at, put_record};
 ghost use Rattle.transfer.specs.Passes.{point_at, sweep_bound};
 ghost use Rattle.transfer.specs.Findings.{finding_at};
 ghost use Rattle.callers.specs.Callers.{Held};
-ghost use Rattle.admission.specs.declared.AdmitAnswer.TheVariants.{Refused};
-ghost use Rattle.admission.specs.Admission.{admit_questions, with_findings, verdict_of, resulting, admit_result};
+ghost use Rattle.findings.specs.Findings.{finding_number, failing};
+ghost use Rattle.admission.specs.Admission.{admit_told, door_number, admit_questions, with_findings, verdict_of, resulting, admit_result};
 
-// What admission answers: a refusal at the door; admitted; or the finding of lowest depth, and among those the one of lowest
-// address.
-#[derive(Clone, Copy)]
-pub enum AdmitAnswer {
-    Refused {
-        number: usize,
-    },
-    Admitted,
-    Found {
-        number: usize,
-        depth: usize,
-        address: usize,
-    },
-}
+use findings::{Failure, Fault};
+use refusal::Refusal;
 
-// The answer, and beside it the count of sweeps that changed the table.
-#[derive(Clone, Copy)]
+// What admission answers: none where the program is admitted, or the cell with a finding that has the lowest depth, and
+// among those the lowest address; or a refusal at the door. Beside it the count of sweeps that changed the table.
+#[derive(Clone, Copy, Debug, PartialEq, Eq)]
 pub struct Answered {
-    pub answer: AdmitAnswer,
+    pub answer: Result<Option<Failure>, Refusal>,
     pub sweeps: usize,
 }
 
-fn wide(x: u8) -> usize
-    ensures { result ≡ x }
+// The byte of a cell's finding, 0 where it has none.
+fn finding_byte(found: Result<(), Fault>) -> u8
+    ensures { result ≡ finding_number found }
 {
-    x as usize
+    match found {
+        Ok(()) => 0,
+        Err(fault) => fault.number(),
+    }
+}
+
+// The byte of a cell's finding, 0 where it has none.
+fn finding_byte(found: Result<(), Fault>) -> u8
+    ensures { result ≡ finding_number found }
+{
+    match found {
+        Ok(()) => 0,
+        Err(fault) => fault.number(),
+    }
+}
+
+// The cell and what it fails with, if it does.
+fn failure(found: Result<(), Fault>, depth: usize, address: usize) -> Option<Failure>
+    ensures number { failing result ≡ finding_number found }
+    ensures cell { IfSome result (λ f. (f.depth ≡ depth) × (f.address ≡ address)) }
+{
+    match found {
+        Ok(()) => None,
+        Err(fault) => Some(Failure {
+            fault,
+            depth,
+            address,
+        }),
+    }
 }
 
 // Writes the finding of a cell into its record, and tells it.
-fn mark_cell(image: &[u8], map: &[u8], table: &mut [u8], depth: usize, pc: usize) -> usize
+fn mark_cell(
+    image: &[u8],
+    map: &[u8],
+    table: &mut [u8],
+    depth: usize,
+    pc: usize,
+) -> Option<Failure>
     requires { Held image.now table.old × (length map.now ≡ map_length) × (depth < 9) × (pc < word_count image.now) }
-    ensures { (result ≡ finding_at image.now map.now table.old (point_at (word_count image.now) depth pc)) × (table.new ≡ put_record table.old (point_at (word_count image.now) depth pc) (record_of (cell_at table.old (point_at (word_count image.now) depth pc)) result)) }
+    ensures number { failing result ≡ finding_at image.now map.now table.old (point_at (word_count image.now) depth pc) }
+    ensures cell { IfSome result (λ f. (f.depth ≡ depth) × (f.address ≡ pc)) }
+    ensures table { table.new ≡ put_record table.old (point_at (word_count image.now) depth pc) (record_of (cell_at table.old (point_at (word_count image.now) depth pc)) (failing result)) }
 {
-    let f = findings::cell_finding(image, map, table, depth, pc);
+    let found = findings::cell_finding(image, map, table, depth, pc);
     let i = depth * (image.len() / 2) + pc;
     let c = cells::load(table, i);
-    cells::store(table, i, c, f);
-    wide(f)
+    cells::store(table, i, c, finding_byte(found));
+    failure(found, depth, pc)
 }
 
-// A finding and its cell; the number is 0 where there is none.
-#[derive(Clone, Copy)]
-struct Named {
-    number: usize,
-    depth: usize,
-    address: usize,
-}
-
-// What is named after one cell more, in the table's order: what was named before it stays.
-fn keep_lower(before: Named, found: Named) -> Named
-    ensures { result ≡ pick (eqb before.number 0) found before }
+// What is told after one cell more, in the table's order: what was told before it stays.
+fn keep_lower(before: Option<Failure>, found: Option<Failure>) -> Option<Failure>
+    ensures { MatchOption before (result ≡ found) (λ b. result ≡ Some b) }
 {
-    if before.number == 0 {
-        return found;
+    match before {
+        None => found,
+        Some(_) => before,
     }
-    before
 }
 
-// Writes the finding of every cell, and answers.
-fn mark(image: &[u8], map: &[u8], table: &mut [u8]) -> AdmitAnswer
+// Writes the finding of every cell, and tells the first.
+fn mark(image: &[u8], map: &[u8], table: &mut [u8]) -> Option<Failure>
     requires { Held image.now table.old × (length map.now ≡ map_length) × (0 < word_count image.now) }
-    ensures { (result ≡ verdict_of image.now map.now table.old) × (table.new ≡ with_findings image.now map.now table.old table.old 0 (depths * word_count image.now)) }
+    ensures { (admit_told (Ok result) ≡ verdict_of image.now map.now table.old) × (table.new ≡ with_findings image.now map.now table.old table.old 0 (depths * word_count image.now)) }
 {
     let words = image.len() / 2;
-    let mut named = Named {
-        number: 0,
-        depth: 0,
-        address: 0,
-    };
-    let mut depth = 0;
-    let mut pc = 0;
-    while depth < facts::DEPTHS {
-        let number = mark_cell(image, map, table, depth, pc);
-        let found = Named {
-            number,
-            depth,
-            address: pc,
-        };
-        named = keep_lower(named, found);
-        pc += 1;
-        if pc == words {
-            pc = 0;
-            depth += 1;
-        }
+    let mut first = None;
+    for i in 0..facts::DEPTHS * words {
+        let found = mark_cell(image, map, table, i / words, i % words);
+        first = keep_lower(first, found);
     }
-    if named.number == 0 {
-        return AdmitAnswer::Admitted;
-    }
-    AdmitAnswer::Found {
-        number: named.number,
-        depth: named.depth,
-        address: named.address,
-    }
+    first
 }
 
-// The number of the first of questions 11, 12 and 13 that gets a no, or 0.
-pub fn door(image: &[u8], map: &[u8], table: &[u8]) -> usize
-    ensures { result ≡ first_no (admit_questions image.now map.now table.now) }
+// Questions 11, 12 and 13: the refusal is that of the first that gets a no.
+pub fn door(image: &[u8], map: &[u8], table: &[u8]) -> Result<(), Refusal>
+    ensures { door_number result ≡ first_no (admit_questions image.now map.now table.now) }
 {
     if !emulator::image_fits(image) {
-        return 11;
+        return Err(Refusal::Image);
     }
     if map.len() != map::LENGTH {
-        return 12;
+        return Err(Refusal::Map);
     }
     if table.len() != image.len() / 2 * facts::WORD_RECORDS {
-        return 13;
+        return Err(Refusal::Table);
     }
-    0
+    Ok(())
 }
 
 // A refusal at the door: no sweep was made.
-fn refused(number: usize) -> Answered
-    ensures { result ≡ record { answer = Refused number; sweeps = 0 } }
+fn refused(refusal: Refusal) -> Answered
+    ensures { result ≡ record { answer = Err refusal; sweeps = 0 } }
 {
     Answered {
-        answer: AdmitAnswer::Refused { number },
+        answer: Err(refusal),
         sweeps: 0,
     }
 }
@@ -136,13 +131,15 @@ fn refused(number: usize) -> Answered
 // Reads an image under a map, and fills the table of facts, whatever it held. Answers admitted, or the lowest finding, which
 // Lowest.antt tells, and counts the sweeps; or a refusal, 11, 12 or 13, and then no byte changes and the count is 0.
 pub fn admit(image: &[u8], map: &[u8], table: &mut [u8]) -> Answered
-    ensures { (resulting result.answer result.sweeps table.new ≡ admit_result image.now map.now table.old) × (result.sweeps ≤ sweep_bound image.now) }
+    ensures { (resulting (admit_told result.answer) result.sweeps table.new ≡ admit_result image.now map.now table.old) × (result.sweeps ≤ sweep_bound image.now) }
 {
-    let number = door(image, map, table);
-    if number != 0 {
-        return refused(number);
+    if let Err(refusal) = door(image, map, table) {
+        return refused(refusal);
     }
     let sweeps = filling::fill(image, table);
-    let answer = mark(image, map, table);
-    Answered { answer, sweeps }
+    let first = mark(image, map, table);
+    Answered {
+        answer: Ok(first),
+        sweeps,
+    }
 }

@@ -12,8 +12,8 @@ use lib.ListN.{length}
 use borrow.Author.Tests.{eq-eqb, ne_eqb, lt-ltb, le-ltb}
 use Rattle.choice.specs.Choice.{pick}
 use Rattle.choice.proofs.Laws.{pick_both, and_both}
-use Rattle.map.specs.declared.Counts.{Counts}
-use Rattle.map.specs.declared.Counts.TheVariants.{Sets, Refused as NotCounted}
+use Rattle.map.specs.Map.{Counts}
+use Rattle.map.specs.Map.{Sets, Refused as NotCounted}
 use Rattle.map.specs.Map.{counted}
 use Rattle.state.specs.State.{EachBelow}
 use Rattle.emulator.specs.Run.{RunAnswer}
@@ -21,16 +21,16 @@ use Rattle.emulator.specs.Run.{Refused, Ended}
 use Rattle.machine.specs.Step.{word_count}
 use Rattle.emulator.specs.Run.{pair_count, image_fits, run_result}
 use Rattle.emulator.proofs.Range.{Ranged as RangedRun, answer_ranged as run-ranged}
-use Rattle.admission.specs.declared.AdmitAnswer.{AdmitAnswer}
-use Rattle.admission.specs.declared.AdmitAnswer.TheVariants.{Refused as NotAdmitted, Admitted, Found}
+use Rattle.admission.specs.Admission.{AdmitAnswer}
+use Rattle.admission.specs.Admission.{Refused as NotAdmitted, Admitted, Found}
 use Rattle.admission.specs.Admission.{admit_result}
 use Rattle.admission.proofs.Range.{Ranged, answer_ranged}
-use Rattle.checking.specs.declared.CheckAnswer.{CheckAnswer}
-use Rattle.checking.specs.declared.CheckAnswer.TheVariants.{Refused as NotChecked, Accepted, Failed}
+use Rattle.checking.specs.Check.{CheckAnswer}
+use Rattle.checking.specs.Check.{Refused as NotChecked, Accepted, Failed}
 use Rattle.checking.specs.Check.{check_result}
 use Rattle.checking.proofs.Range.{Ranged as RangedCheck, answer_ranged as check-ranged}
-use Rattle.foretell.specs.declared.ForetellAnswer.{ForetellAnswer}
-use Rattle.foretell.specs.declared.ForetellAnswer.TheVariants.{Refused as NotForetold, Foretold}
+use Rattle.foretell.specs.Foretell.{ForetellAnswer}
+use Rattle.foretell.specs.Foretell.{Refused as NotForetold, Foretold}
 use Rattle.foretell.specs.Foretell.{foretold, bound_of}
 use Rattle.columns.specs.Line.{line_length}
 use Rattle.listing.specs.Listing.{ListResult, page_refused, whole_page, list_result}

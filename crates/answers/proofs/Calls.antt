@@ -10,7 +10,7 @@ use Rattle.state.specs.State.{state_length, reset_bytes}
 use Rattle.emulator.specs.Run.{pair_count, run_result}
 use Rattle.admission.specs.Admission.{admit_result}
 use Rattle.admission.proofs.OneAnswer.{found_lowest}
-use Rattle.checking.specs.declared.CheckAnswer.{CheckAnswer}
+use Rattle.checking.specs.Check.{CheckAnswer}
 use Rattle.foretell.proofs.Counting.{counts_foretold}
 use Rattle.guarantee.specs.Demand.{Job, Executes, Flawless, finished, executes, turned_away}
 use Rattle.guarantee.proofs.ResetSafe.{reset_done}

@@ -10,15 +10,15 @@ use Rattle.map.specs.Map.{map_length, counted}
 use Rattle.map.proofs.Laws.{count_le}
 use Rattle.emulator.specs.Run.{image_fits}
 use Rattle.emulator.proofs.Door.{image_words}
-use Rattle.admission.specs.declared.AdmitAnswer.{AdmitAnswer}
-use Rattle.admission.specs.declared.AdmitAnswer.TheVariants.{Refused, Admitted, Found}
+use Rattle.admission.specs.Admission.{AdmitAnswer}
+use Rattle.admission.specs.Admission.{Refused, Admitted, Found}
 use Rattle.admission.specs.Admission.{admit_result}
 use Rattle.admission.proofs.Range.{Ranged, answer_ranged}
-use Rattle.checking.specs.declared.CheckAnswer.{CheckAnswer}
-use Rattle.checking.specs.declared.CheckAnswer.TheVariants.{Refused as NotChecked, Accepted, Failed}
+use Rattle.checking.specs.Check.{CheckAnswer}
+use Rattle.checking.specs.Check.{Refused as NotChecked, Accepted, Failed}
 use Rattle.checking.specs.Check.{check_result}
 use Rattle.checking.proofs.Range.{Ranged as RangedCheck, answer_ranged as check-ranged}
-use Rattle.foretell.specs.declared.ForetellAnswer.{ForetellAnswer}
+use Rattle.foretell.specs.Foretell.{ForetellAnswer}
 use Rattle.foretell.specs.Foretell.{foretold, bound_of}
 use Rattle.foretell.proofs.Counting.{counts_foretold}
 use Rattle.answers.specs.Fits.{CountsFit, VerdictFits, CheckFits, ForetoldFits}

@@ -1,13 +1,13 @@
 -- Answers that fit the places of a number; all that the calls answer do.
 use Rattle.std.specs.Prelude.{ℕ, ◌≤◌, ◌<◌}
-use Rattle.map.specs.declared.Counts.{Counts}
-use Rattle.map.specs.declared.Counts.TheVariants.{Sets, Refused as NotCounted}
-use Rattle.admission.specs.declared.AdmitAnswer.{AdmitAnswer}
-use Rattle.admission.specs.declared.AdmitAnswer.TheVariants.{Refused as NotAdmitted, Admitted, Found}
-use Rattle.checking.specs.declared.CheckAnswer.{CheckAnswer}
-use Rattle.checking.specs.declared.CheckAnswer.TheVariants.{Refused as NotChecked, Accepted, Failed}
-use Rattle.foretell.specs.declared.ForetellAnswer.{ForetellAnswer}
-use Rattle.foretell.specs.declared.ForetellAnswer.TheVariants.{Refused as NotForetold, Foretold}
+use Rattle.map.specs.Map.{Counts}
+use Rattle.map.specs.Map.{Sets, Refused as NotCounted}
+use Rattle.admission.specs.Admission.{AdmitAnswer}
+use Rattle.admission.specs.Admission.{Refused as NotAdmitted, Admitted, Found}
+use Rattle.checking.specs.Check.{CheckAnswer}
+use Rattle.checking.specs.Check.{Refused as NotChecked, Accepted, Failed}
+use Rattle.foretell.specs.Foretell.{ForetellAnswer}
+use Rattle.foretell.specs.Foretell.{Refused as NotForetold, Foretold}
 
 abbrev pub CountsFit : Counts → Type 0
 CountsFit (Sets a b c d) = (a ≤ 256) × (b ≤ 256) × (c ≤ 256) × (d ≤ 256)

@@ -2,14 +2,14 @@
 -- words are in `numbers`.
 use Rattle.std.specs.Prelude.{Bool, ◌&&◌, ℕ, ◌+◌, ◌*◌, ◌%◌, ◌^◌, ltb, eqb}
 use Rattle.choice.specs.Choice.{pick}
-use Rattle.map.specs.declared.Counts.{Counts}
-use Rattle.map.specs.declared.Counts.TheVariants.{Sets, Refused as NotCounted}
-use Rattle.admission.specs.declared.AdmitAnswer.{AdmitAnswer}
-use Rattle.admission.specs.declared.AdmitAnswer.TheVariants.{Refused as NotAdmitted, Admitted, Found}
-use Rattle.checking.specs.declared.CheckAnswer.{CheckAnswer}
-use Rattle.checking.specs.declared.CheckAnswer.TheVariants.{Refused as NotChecked, Accepted, Failed}
-use Rattle.foretell.specs.declared.ForetellAnswer.{ForetellAnswer}
-use Rattle.foretell.specs.declared.ForetellAnswer.TheVariants.{Refused as NotForetold, Foretold}
+use Rattle.map.specs.Map.{Counts}
+use Rattle.map.specs.Map.{Sets, Refused as NotCounted}
+use Rattle.admission.specs.Admission.{AdmitAnswer}
+use Rattle.admission.specs.Admission.{Refused as NotAdmitted, Admitted, Found}
+use Rattle.checking.specs.Check.{CheckAnswer}
+use Rattle.checking.specs.Check.{Refused as NotChecked, Accepted, Failed}
+use Rattle.foretell.specs.Foretell.{ForetellAnswer}
+use Rattle.foretell.specs.Foretell.{Refused as NotForetold, Foretold}
 use Rattle.emulator.specs.Run.{RunAnswer}
 use Rattle.emulator.specs.Run.{Refused, Ended}
 use Rattle.listing.specs.declared.ListAnswer.{ListAnswer}

@@ -17,8 +17,8 @@ use Rattle.transfer.proofs.First.{NoneBefore, first}
 use Rattle.transfer.proofs.Membership.{same_or}
 use Rattle.admission.specs.Admission.{admit_questions}
 use Rattle.admission.proofs.Opening.{Opened, opened}
-use Rattle.checking.specs.declared.CheckAnswer.{CheckAnswer}
-use Rattle.checking.specs.declared.CheckAnswer.TheVariants.{Refused, Accepted, Failed}
+use Rattle.checking.specs.Check.{CheckAnswer}
+use Rattle.checking.specs.Check.{Refused, Accepted, Failed}
 use Rattle.checking.specs.Check.{layout_at, start_held, fault_at, in_order, judged, CheckResult, check_result, Acceptable}
 use Rattle.checking.proofs.Scanning.{asks_next, fits_of}
 use Rattle.checking.proofs.Faults.{fault_told}

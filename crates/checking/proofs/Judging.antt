@@ -22,8 +22,8 @@ use Rattle.transfer.specs.Findings.{first_of}
 use Rattle.transfer.proofs.First.{NoneBefore, first}
 use Rattle.admission.specs.Admission.{admit_questions}
 use Rattle.admission.proofs.Opening.{Opened}
-use Rattle.checking.specs.declared.CheckAnswer.{CheckAnswer}
-use Rattle.checking.specs.declared.CheckAnswer.TheVariants.{Refused, Accepted, Failed}
+use Rattle.checking.specs.Check.{CheckAnswer}
+use Rattle.checking.specs.Check.{Refused, Accepted, Failed}
 use Rattle.checking.specs.Check.{layout_at, start_held, fault_at, in_order, judged, CheckResult, answering, check_result}
 use Rattle.checking.proofs.Scanning.{fails_first, asks_next, fits_of, number_42}
 

@@ -21,8 +21,8 @@ use Rattle.transfer.specs.Passes.{passes_from, table_space, table_length}
 use Rattle.transfer.specs.Findings.{finding_at, first_of}
 use Rattle.transfer.proofs.First.{first}
 use Rattle.transfer.proofs.Numbers.{finding_number}
-use Rattle.checking.specs.declared.CheckAnswer.{CheckAnswer}
-use Rattle.checking.specs.declared.CheckAnswer.TheVariants.{Refused, Accepted, Failed}
+use Rattle.checking.specs.Check.{CheckAnswer}
+use Rattle.checking.specs.Check.{Refused, Accepted, Failed}
 use Rattle.checking.specs.Check.{layout_at, start_held, fault_at, in_order, judged, CheckResult, check_result}
 
 -- an answer's numbers: a refusal can be told from what a cell fails with, and neither is 0

@@ -15,8 +15,8 @@ use Rattle.records.specs.Records.{record_fits}
 use Rattle.transfer.specs.Passes.{point_at}
 use Rattle.transfer.specs.Findings.{first_of}
 use Rattle.transfer.proofs.First.{NoneBefore, first_here, first_none}
-use Rattle.checking.specs.declared.CheckAnswer.{CheckAnswer}
-use Rattle.checking.specs.declared.CheckAnswer.TheVariants.{Failed}
+use Rattle.checking.specs.Check.{CheckAnswer}
+use Rattle.checking.specs.Check.{Failed}
 use Rattle.checking.specs.Check.{layout_at, fails_at, in_order}
 
 module _ (image : List ℕ) (number : ℕ → ℕ) (next : CheckAnswer) where

@@ -10,8 +10,8 @@ use Rattle.records.specs.Records.{record_fits}
 use Rattle.transfer.specs.Passes.{passes_from, table_space, table_length}
 use Rattle.transfer.specs.Findings.{finding_at, first_of, NoFinding}
 use Rattle.admission.specs.Admission.{admit_questions}
-use Rattle.checking.specs.declared.CheckAnswer.{CheckAnswer}
-use Rattle.checking.specs.declared.CheckAnswer.TheVariants.{Refused, Accepted, Failed}
+use Rattle.checking.specs.Check.{CheckAnswer}
+use Rattle.checking.specs.Check.{Refused, Accepted, Failed}
 
 -- "Every record has the layout of document 01 with byte 1 zero and OVF unknown, 0 or 1, else 42"
 abbrev pub layout_at : List ℕ → ℕ → ℕ

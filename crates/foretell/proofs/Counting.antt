@@ -17,9 +17,9 @@ use Rattle.flow.proofs.Filling.{filled_changed, filled_still}
 use Rattle.transfer.proofs.TableLaws.{table_laws, start_begins}
 use Rattle.transfer.proofs.LeastTable.{least_filled, count_bound}
 use Rattle.admission.specs.Admission.{verdict_of, filled_table, resulting, admit_result}
-use Rattle.admission.specs.declared.AdmitAnswer.TheVariants.{Refused as NotAdmitted}
-use Rattle.foretell.specs.declared.ForetellAnswer.{ForetellAnswer}
-use Rattle.foretell.specs.declared.ForetellAnswer.TheVariants.{Refused, Foretold}
+use Rattle.admission.specs.Admission.{Refused as NotAdmitted}
+use Rattle.foretell.specs.Foretell.{ForetellAnswer}
+use Rattle.foretell.specs.Foretell.{Refused, Foretold}
 use Rattle.foretell.specs.Foretell.{foretold}
 use Rattle.foretell.specs.Counting.{Agree, CountsForetold}
 

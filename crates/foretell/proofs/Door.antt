@@ -7,7 +7,7 @@ use native.Mathlib.Omega.{arith}
 use lib.ListN.{length}
 use Rattle.emulator.specs.Run.{image_fits}
 use Rattle.transfer.specs.Passes.{table_length, sweep_bound}
-use Rattle.foretell.specs.declared.ForetellAnswer.TheVariants.{Refused, Foretold}
+use Rattle.foretell.specs.Foretell.{Refused, Foretold}
 use Rattle.foretell.specs.Foretell.{foretold, foretold_numbers, foretelling}
 
 module _ (image : List ℕ) where

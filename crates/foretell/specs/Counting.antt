@@ -6,10 +6,10 @@ use Rattle.map.specs.Map.{map_length}
 use Rattle.state.specs.State.{EachBelow}
 use Rattle.flow.specs.Flow.{sweep, sweeps}
 use Rattle.transfer.specs.Passes.{table_space, start_table, least_table, sweeps_of}
-use Rattle.admission.specs.declared.AdmitAnswer.TheVariants.{Refused as NotAdmitted}
+use Rattle.admission.specs.Admission.{Refused as NotAdmitted}
 use Rattle.admission.specs.Admission.{admit_questions, AdmitResult, admit_result}
-use Rattle.foretell.specs.declared.ForetellAnswer.{ForetellAnswer}
-use Rattle.foretell.specs.declared.ForetellAnswer.TheVariants.{Refused, Foretold}
+use Rattle.foretell.specs.Foretell.{ForetellAnswer}
+use Rattle.foretell.specs.Foretell.{Refused, Foretold}
 use Rattle.foretell.specs.Foretell.{foretold, bound_of}
 
 -- What admission yields and foretelling answers of an image, a map and a table, `door` being the number of the first no that

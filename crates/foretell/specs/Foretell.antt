@@ -3,8 +3,8 @@ use Rattle.std.specs.Prelude.{List, [], ◌∷◌, ℕ}
 use Rattle.choice.specs.Choice.{Question, ask, asked}
 use Rattle.emulator.specs.Run.{image_fits}
 use Rattle.transfer.specs.Passes.{table_length, sweep_bound}
-use Rattle.foretell.specs.declared.ForetellAnswer.{ForetellAnswer}
-use Rattle.foretell.specs.declared.ForetellAnswer.TheVariants.{Refused, Foretold}
+use Rattle.foretell.specs.Foretell.{ForetellAnswer}
+use Rattle.foretell.specs.Foretell.{Refused, Foretold}
 
 -- "That call puts question 11 alone."
 abbrev pub foretell_questions : List ℕ → List Question

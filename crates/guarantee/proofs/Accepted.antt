@@ -12,7 +12,7 @@ use Rattle.transfer.specs.Passes.{least_table}
 use Rattle.transfer.proofs.TableLaws.{least_table_lem}
 use Rattle.transfer.proofs.Overflow.{least_overflow}
 use Rattle.admission.proofs.Filled.{admitted_cleared, admitted_table}
-use Rattle.checking.specs.declared.CheckAnswer.TheVariants.{Accepted}
+use Rattle.checking.specs.Check.{Accepted}
 use Rattle.checking.specs.Check.{check_result}
 use Rattle.checking.proofs.Accepting.{accepted_acceptable, acceptable_accepted}
 use Rattle.guarantee.specs.Accepted.{AcceptedRuns, AdmittedAccepted, AcceptedCovers}

@@ -4,7 +4,7 @@ use mathlib.Core.Path.{◌≡◌, ap, subst⁻¹}
 use mathlib.Core.List.{List}
 use Prim.Native.Nat.{ℕ}
 use Rattle.state.specs.State.{reset_bytes}
-use Rattle.admission.specs.declared.AdmitAnswer.TheVariants.{Admitted}
+use Rattle.admission.specs.Admission.{Admitted}
 use Rattle.admission.specs.Admission.{filled_table, AdmitResult, admit_result, Cleared}
 use Rattle.emulator.proofs.Door.{image_some}
 use Rattle.admission.proofs.Filled.{filled_clear, clear_filled, cleared_admitted, admitted_cleared, admitted_table}

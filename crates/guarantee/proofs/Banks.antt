@@ -20,7 +20,7 @@ use Rattle.facts.specs.Facts.{all_know_no_more, join_facts, result_fact, with_ca
 use Rattle.facts.specs.Record.{depths, reset_cell, holds_cell, join_cell, record_of, mask_of, read_cell, cell_at, put_record, put_cell}
 use Rattle.transfer.specs.Passes.{over, over_down, gives, words_at, some, word_passes, all_passes, table_space, table_length, start_table}
 use Rattle.transfer.specs.Findings.{all_below, finding_at}
-use Rattle.admission.specs.declared.AdmitAnswer.TheVariants.{Admitted}
+use Rattle.admission.specs.Admission.{Admitted}
 use Rattle.admission.specs.Admission.{admit_result}
 use Rattle.guarantee.specs.Demand.{Job}
 use Rattle.guarantee.specs.Unseen.{SameBut, Twins, job_result, Unseen, Ungranted, Seen}

@@ -22,7 +22,7 @@ use Rattle.transfer.specs.Passes.{table_space, table_length, start_table, sweep_
 use Rattle.transfer.specs.Findings.{finding_at, NoFinding}
 use Rattle.transfer.proofs.Membership.{same_or}
 use Rattle.transfer.proofs.TableLaws.{table_laws, start_begins}
-use Rattle.admission.specs.declared.AdmitAnswer.TheVariants.{Admitted}
+use Rattle.admission.specs.Admission.{Admitted}
 use Rattle.admission.specs.Admission.{admit_result}
 use Rattle.guarantee.proofs.Admitted.{admitted_when}
 

@@ -20,7 +20,7 @@ use Rattle.facts.specs.Facts.{unknown, reset_facts, all_know_no_more, join_facts
 use Rattle.facts.specs.Record.{depths, cell_of, reset_cell, holds_cell, join_cell, record_of, mask_of, read_cell, cell_at, put_record, put_cell}
 use Rattle.transfer.specs.Passes.{over, over_down, gives, words_at, some, word_passes, all_passes, passes_from, table_space, table_length, start_table, least_table}
 use Rattle.transfer.specs.Findings.{all_below, finding_at, NoFinding}
-use Rattle.admission.specs.declared.AdmitAnswer.TheVariants.{Admitted}
+use Rattle.admission.specs.Admission.{Admitted}
 use Rattle.admission.specs.Admission.{admit_result}
 use Rattle.guarantee.specs.Demand.{Job, Flawless}
 use Rattle.guarantee.proofs.Admitted.{admitted_demand}

@@ -3,9 +3,9 @@ use Rattle.std.specs.Prelude.{◌≡◌, ◌≢◌, List, ℕ}
 use Rattle.state.specs.State.{EachBelow, reset_bytes}
 use Rattle.flow.specs.Flow.{Below}
 use Rattle.transfer.specs.Passes.{table_space, least_table}
-use Rattle.admission.specs.declared.AdmitAnswer.TheVariants.{Admitted}
+use Rattle.admission.specs.Admission.{Admitted}
 use Rattle.admission.specs.Admission.{admit_result}
-use Rattle.checking.specs.declared.CheckAnswer.TheVariants.{Accepted}
+use Rattle.checking.specs.Check.{Accepted}
 use Rattle.checking.specs.Check.{check_result}
 use Rattle.guarantee.specs.Demand.{Job, Flawless}
 

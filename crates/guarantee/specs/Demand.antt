@@ -8,7 +8,7 @@ use Rattle.machine.specs.Step.{step_questions, stepped}
 use Rattle.emulator.specs.Run.{Refused, Ended}
 use Rattle.emulator.specs.Run.{pair_count, image_fits, recording_fits, trace_fits, run_result}
 use Rattle.transfer.specs.Findings.{NoFinding}
-use Rattle.admission.specs.declared.AdmitAnswer.TheVariants.{Admitted}
+use Rattle.admission.specs.Admission.{Admitted}
 use Rattle.admission.specs.Admission.{admit_result}
 use Rattle.guarantee.specs.Safe.{Inside}
 

@@ -6,7 +6,7 @@ use Rattle.map.specs.Map.{NothingReadable}
 use Rattle.state.specs.State.{state_length, EachBelow, reset_bytes, reset_state}
 use Rattle.emulator.specs.Run.{Ended}
 use Rattle.emulator.specs.Run.{pair_length, door_questions, RunResult, run_result}
-use Rattle.admission.specs.declared.AdmitAnswer.TheVariants.{Admitted}
+use Rattle.admission.specs.Admission.{Admitted}
 use Rattle.admission.specs.Admission.{admit_result}
 use Rattle.guarantee.specs.Demand.{Job}
 

@@ -16,8 +16,8 @@ use Rattle.state.specs.State.{EachBelow}
 use Rattle.machine.specs.Step.{word_count}
 use Rattle.emulator.specs.Run.{image_fits}
 use Rattle.transfer.specs.Passes.{least_table}
-use Rattle.admission.specs.declared.AdmitAnswer.{AdmitAnswer}
-use Rattle.admission.specs.declared.AdmitAnswer.TheVariants.{Refused, Admitted, Found}
+use Rattle.admission.specs.Admission.{AdmitAnswer}
+use Rattle.admission.specs.Admission.{Refused, Admitted, Found}
 use Rattle.admission.specs.Admission.{filled_table, verdict_of}
 use Rattle.admission.specs.Lowest.{finding_in, Lowest}
 use Rattle.admission.proofs.OneAnswer.{lowest_verdict, verdict_lowest}

@@ -12,8 +12,8 @@ use Rattle.machine.specs.Step.{word_count}
 use Rattle.emulator.specs.Run.{image_fits}
 use Rattle.facts.specs.Record.{depths}
 use Rattle.transfer.specs.Passes.{table_length, least_table}
-use Rattle.admission.specs.declared.AdmitAnswer.{AdmitAnswer}
-use Rattle.admission.specs.declared.AdmitAnswer.TheVariants.{Refused, Found}
+use Rattle.admission.specs.Admission.{AdmitAnswer}
+use Rattle.admission.specs.Admission.{Refused, Found}
 use Rattle.admission.specs.Admission.{AdmitResult, verdict_of, resulting, admit_result}
 use Rattle.admission.proofs.Range.{Told, verdict_told}
 use Rattle.report.specs.Report.{answer_line, words_line}

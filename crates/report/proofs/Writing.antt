@@ -5,8 +5,8 @@ use Prim.Native.Nat.{ℕ, ◌<◌}
 use native.Mathlib.Omega.{arith}
 use borrow.Author.Tests.{eq-eqb}
 use lib.ListN.{length}
-use Rattle.map.specs.declared.Counts.{Counts}
-use Rattle.map.specs.declared.Counts.TheVariants.{Sets, Refused}
+use Rattle.map.specs.Map.{Counts}
+use Rattle.map.specs.Map.{Sets, Refused}
 use Rattle.map.specs.Map.{map_length, count_of, counted}
 use Rattle.map.proofs.Laws.{count_le}
 use Rattle.machine.specs.Step.{word_count}

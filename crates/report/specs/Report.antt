@@ -3,8 +3,8 @@ use Rattle.std.specs.Prelude.{List, [], ◌∷◌, ◌++◌, ℕ}
 use Rattle.map.specs.Map.{count_of}
 use Rattle.machine.specs.Step.{word_count}
 use Rattle.transfer.specs.Passes.{least_table}
-use Rattle.admission.specs.declared.AdmitAnswer.{AdmitAnswer}
-use Rattle.admission.specs.declared.AdmitAnswer.TheVariants.{Refused, Admitted, Found}
+use Rattle.admission.specs.Admission.{AdmitAnswer}
+use Rattle.admission.specs.Admission.{Refused, Admitted, Found}
 use Rattle.admission.specs.Admission.{verdict_of}
 use Rattle.text.specs.Text.{space_text, refused_text, decimal, door_line}
 

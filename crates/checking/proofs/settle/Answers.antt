@@ -6,7 +6,7 @@ use Rattle.machine.specs.Step.{word_count}
 use Rattle.transfer.specs.Passes.{point_at}
 use Rattle.transfer.proofs.First.{NoneBefore, none_yet}
 use Rattle.callers.proofs.Points.{next_address, next_depth, past_all}
-use Rattle.checking.specs.declared.CheckAnswer.TheVariants.{Accepted}
+use Rattle.checking.specs.Check.{Accepted}
 use Rattle.checking.specs.Check.{fault_at}
 use Rattle.checking.proofs.Scanning.{fails_here, asks_next}
 use Rattle.checking.proofs.settle.Goals as goal
