@@ -12,11 +12,15 @@ use Rattle.state.specs.declared.State.{State}
 use Rattle.state.specs.State.{EachBelow}
 use Rattle.machine.specs.declared.Sequencer.{Sequencer}
 use Rattle.machine.specs.declared.Effect.{Effect}
-use Rattle.machine.specs.Parts.{whole, outcome}
+use Rattle.machine.specs.declared.Event.{Event}
+use Rattle.machine.specs.declared.Event.TheVariants.{Quiet, Address, Data, Stopped}
+use Rattle.machine.specs.declared.Stop.{Stop}
+use Rattle.machine.specs.declared.Stop.TheVariants.{Outside, Invalid, Unreadable, Unwritable, Unlisted, Full, Empty}
+use Rattle.machine.specs.Parts.{whole, outcome, event_stop, stop_number}
 use Rattle.machine.specs.Step.{word_count, Step, step_from, stepped}
 use Rattle.machine.proofs.Keeps.{Sound, SoundOutcome, outcome_of, step_sound}
 use Rattle.emulator.specs.Run.{pair_length, pair_count, record_length, record_of, Ran, no_step, after, ran_over, written_over}
-use Rattle.emulator.specs.Parts.{half_length, event_bytes, address_bytes, EventFits, sequencer_of, last_state, ran_to, laid_over, Accepted}
+use Rattle.emulator.specs.Parts.{half_length, event_bytes, address_bytes, EventFits, last_state, ran_to, laid_over, Accepted}
 use Rattle.emulator.proofs.Written.{room_from, part_written, written, written_take, written_drop, written_length, written_before}
 
 -- ---- the run by its parts
@@ -210,35 +214,51 @@ module _ {image map recording start : List ℕ} {s₀ : State} {i : ℕ} {trace 
       sound : SoundOutcome (outcome e v' l' r')
       sound = goes_sound image map recording start s₀ i (whole q v l r) trace made door.words bytes pairs g step
 
-      pub event_fits : EventFits e
+      pub event_fits : EventFits e.event
       event_fits =
           record { kind = sound.bytes 0; address = sound.bytes 1; written = sound.bytes 2; stop = sound.bytes 3 }
 
       -- and the part back in which was written what its word does
-      module _ {part : List ℕ} (event : part ≡ written_over (event_bytes e) (take (length located - at) (drop at located))) where
+      module _ {part : List ℕ} (event : part ≡ written_over (event_bytes e.event) (take (length located - at) (drop at located))) where
         abbrev back : List ℕ
         back = put_mid at (length located - at) located part
 
         recorded : back ≡ written at trace (record_of made)
         recorded =
-            part_written at located part (event_bytes e) event ∙ ap (λ (t : List ℕ). written at t (event_bytes e)) halfway
-            ∙ written_before at half_length trace (event_bytes e) (address_bytes q) refl (omega (arith, fits))
+            part_written at located part (event_bytes e.event) event ∙ ap (λ (t : List ℕ). written at t (event_bytes e.event)) halfway
+            ∙ written_before at half_length trace (event_bytes e.event) (address_bytes q) refl (omega (arith, fits))
 
-        next : (p : Sequencer) (n : ℕ) → p ≡ sequencer_of e → n ≡ e.stop
-            → Going image map recording start s₀ (i + 1) (last_state (record { q = p; count = i + 1; stop = n }) v' l' r') back
-        next p n hp hn =
+        next : (n : ℕ) → n ≡ event_stop e.event
+            → Going image map recording start s₀ (i + 1) (last_state (record { q = e.q; count = i + 1; stop = n }) v' l' r') back
+        next n hn =
             subst (λ (s : State). Going image map recording start s₀ (i + 1) s back)
-            (sym (ap₂ (λ (x : Sequencer) (m : ℕ). last_state (record { q = x; count = i + 1; stop = m }) v' l' r') hp hn))
+            (sym (ap (λ (m : ℕ). last_state (record { q = e.q; count = i + 1; stop = m }) v' l' r') hn))
             (goes_on_lem image map recording start s₀ i (whole q v l r) trace back made door.room g h refl step sound recorded)
 
-        pub again : (p : Sequencer) → p ≡ sequencer_of e → e.stop ≡ 0 → Going image map recording start s₀ (i + 1) (whole p v' l' r') back
-        again p hp running = next p 0 hp (sym running)
+        pub again : event_stop e.event ≡ 0 → Going image map recording start s₀ (i + 1) (whole e.q v' l' r') back
+        again running = next 0 (sym running)
 
         pub as_long : length back ≡ length start
-        as_long = (next (sequencer_of e) e.stop refl refl).same
+        as_long = (next (event_stop e.event) refl).same
 
-        pub stops : (p : Sequencer) → p ≡ sequencer_of e → (e.stop ≡ 0 → ⊥)
-            → ran_to (record { q = p; count = i + 1; stop = e.stop }) v' l' r' back ≡ laid_over (ran_over image map recording s₀) start
-        stops p hp stopped =
-            ends image map recording start s₀ (i + 1) (last_state (record { q = p; count = i + 1; stop = e.stop }) v' l' r') back door.room (next p e.stop hp refl)
+        pub stops : {n : ℕ} → n ≡ event_stop e.event → (n ≡ 0 → ⊥)
+            → ran_to (record { q = e.q; count = i + 1; stop = n }) v' l' r' back ≡ laid_over (ran_over image map recording s₀) start
+        stops {n} hn stopped =
+            ends image map recording start s₀ (i + 1) (last_state (record { q = e.q; count = i + 1; stop = n }) v' l' r') back door.room (next n hn)
             (ran_stopped image map (drop (pair_length * (i + 1)) recording) _ stopped)
+
+-- what is no stop has no number, and a stop has one
+pub running_on : (e : Event) → ((why : Stop) → e ≡ Stopped why → ⊥) → event_stop e ≡ 0
+running_on Quiet other = refl
+running_on (Address bank address) other = refl
+running_on (Data bank address byte) other = refl
+running_on (Stopped why) other = absurd (other why refl)
+
+pub some_stop : (why : Stop) → stop_number why ≡ 0 → ⊥
+some_stop Outside z = absurd (omega arith)
+some_stop Invalid z = absurd (omega arith)
+some_stop Unreadable z = absurd (omega arith)
+some_stop Unwritable z = absurd (omega arith)
+some_stop Unlisted z = absurd (omega arith)
+some_stop Full z = absurd (omega arith)
+some_stop Empty z = absurd (omega arith)

@@ -4,8 +4,8 @@ use Rattle.map.specs.Map.{map_length}
 use Rattle.state.specs.declared.State.{State}
 use Rattle.state.specs.State.{two_bytes, Formed, Sized}
 use Rattle.machine.specs.declared.Sequencer.{Sequencer}
-use Rattle.machine.specs.declared.Effect.{Effect}
-use Rattle.machine.specs.Parts.{fetch_of}
+use Rattle.machine.specs.declared.Event.{Event}
+use Rattle.machine.specs.Parts.{fetch_of, event_kind, event_address, event_written, event_stop}
 use Rattle.machine.specs.Step.{word_count}
 use Rattle.emulator.specs.declared.Last.{Last}
 use Rattle.emulator.specs.Run.{Ran, pair_count, record_length, written_over}
@@ -14,22 +14,18 @@ use Rattle.emulator.specs.Run.{Ran, pair_count, record_length, written_over}
 abbrev pub half_length : ℕ
 half_length = 4
 
-abbrev pub event_bytes : Effect → List ℕ
-event_bytes e = e.kind ∷ e.address ∷ e.written ∷ e.stop ∷ []
+abbrev pub event_bytes : Event → List ℕ
+event_bytes e = event_kind e ∷ event_address e ∷ event_written e ∷ event_stop e ∷ []
 
 abbrev pub address_bytes : Sequencer → List ℕ
 address_bytes q = two_bytes q.pc ++ two_bytes (fetch_of q)
 
--- the numbers of the first fit bytes
-pub record EventFits (e : Effect) : Type 0 where
-  pub kind : e.kind < 256
-  pub address : e.address < 256
-  pub written : e.written < 256
-  pub stop : e.stop < 256
-
--- the sequencer that a step leaves
-abbrev pub sequencer_of : Effect → Sequencer
-sequencer_of e = record { pc = e.pc; flag = e.flag; pending = e.pending; depth = e.depth }
+-- its numbers fit bytes
+pub record EventFits (e : Event) : Type 0 where
+  pub kind : event_kind e < 256
+  pub address : event_address e < 256
+  pub written : event_written e < 256
+  pub stop : event_stop e < 256
 
 -- the state that the steps of a run leave
 abbrev pub last_state : Last → List ℕ → List ℕ → List ℕ → State

@@ -1,12 +1,12 @@
 // The steps of a run: one for each pair of a recording, with its trace record.
 #![tactic(auto)]
 
-ghost use Rattle.std.specs.Prelude.{◌≡◌, [], ◌∷◌, ◌≤◌, ◌<◌, length};
+ghost use Rattle.std.specs.Prelude.{◌≡◌, ◌≤◌, length};
 ghost use Rattle.machine.specs.Parts.{whole};
 ghost use Rattle.emulator.specs.Run.{ran_over, written_over, image_fits};
-ghost use Rattle.emulator.specs.Parts.{half_length, event_bytes, address_bytes, EventFits, sequencer_of, ran_to, laid_over, Accepted};
+ghost use Rattle.emulator.specs.Parts.{half_length, event_bytes, address_bytes, EventFits, ran_to, laid_over, Accepted};
 
-use machine::{Effect, Sequencer};
+use machine::{Event, Sequencer};
 
 // A recording has a left and a right byte for each step, a trace a record of eight: what the word does, and where.
 pub const PAIR: usize = 2;
@@ -30,45 +30,43 @@ pub struct Last {
     pub stop: usize,
 }
 
-// The sequencer that a step leaves.
-fn sequencer(e: Effect) -> Sequencer
-    ensures { result ≡ sequencer_of e }
+// Writes half a record at the start of a part of the trace.
+fn write_half(part: &mut [u8], half: [u8; HALF])
+    requires { half_length ≤ length part.old }
+    ensures { part.new ≡ written_over half part.old }
 {
-    Sequencer {
-        pc: e.pc,
-        flag: e.flag,
-        pending: e.pending,
-        depth: e.depth,
+    part[..HALF].copy_from_slice(&half);
+}
+
+// What a step's word does: its kind, the bank's address, the data, the stop number.
+fn event_bytes(event: Event) -> [u8; HALF]
+    requires { EventFits event }
+    ensures { result ≡ event_bytes event }
+{
+    match event {
+        Event::Quiet => [0; HALF],
+        Event::Address { bank, address } => [1 + bank as u8, address, 0, 0],
+        Event::Data {
+            bank,
+            address,
+            data,
+        } => [3 + bank as u8, address, data, 0],
+        Event::Stopped(why) => [5, 0, 0, why.number()],
     }
 }
 
-// Writes half a record at the start of a part of the trace.
-fn write_half(part: &mut [u8], a: usize, b: usize, c: usize, d: usize)
-    requires { (half_length ≤ length part.old) × (a < 256) × (b < 256) × (c < 256) × (d < 256) }
-    ensures { part.new ≡ written_over (a ∷ b ∷ c ∷ d ∷ []) part.old }
-{
-    part[0] = a as u8;
-    part[1] = b as u8;
-    part[2] = c as u8;
-    part[3] = d as u8;
-}
-
-// What a step's word does.
-fn write_event(part: &mut [u8], e: Effect)
-    requires { (half_length ≤ length part.old) × EventFits e }
-    ensures { part.new ≡ written_over (event_bytes e) part.old }
-{
-    write_half(part, e.kind, e.address, e.written, e.stop);
-}
-
 // PC and the fetch address before a step, the low byte first.
-fn write_addresses(part: &mut [u8], q: Sequencer)
-    requires { half_length ≤ length part.old }
-    ensures { part.new ≡ written_over (address_bytes q) part.old }
+fn address_bytes(q: Sequencer) -> [u8; HALF]
+    ensures { result ≡ address_bytes q }
 {
     let pc = q.pc;
     let at = processor::fetch_address(q);
-    write_half(part, pc % 256, pc / 256 % 256, at % 256, at / 256 % 256);
+    [
+        (pc % 256) as u8,
+        (pc / 256 % 256) as u8,
+        (at % 256) as u8,
+        (at / 256 % 256) as u8,
+    ]
 }
 
 // Steps over the pairs of the recording until the machine stops.
@@ -90,15 +88,15 @@ pub fn steps(
     for i in 0..pairs {
         let bus = [recording[PAIR * i], recording[PAIR * i + 1]];
         let at = RECORD * i;
-        write_addresses(&mut trace[at + HALF..], q);
+        write_half(&mut trace[at + HALF..], address_bytes(q));
         let e = processor::step(image, map, bus, q, values, latches, returns);
-        write_event(&mut trace[at..], e);
-        q = sequencer(e);
-        if e.stop != 0 {
+        write_half(&mut trace[at..], event_bytes(e.event));
+        q = e.q;
+        if let Event::Stopped(why) = e.event {
             return Last {
                 q,
                 count: i + 1,
-                stop: e.stop,
+                stop: usize::from(why.number()),
             };
         }
     }
