@@ -20,8 +20,11 @@ use Rattle.transfer.specs.Passes.{table_length, sweep_bound, least_table, sweeps
 use Rattle.transfer.proofs.TableLaws.{least_table_lem}
 use Rattle.admission.specs.Admission.{AdmitAnswer}
 use Rattle.admission.specs.Admission.{Refused}
+use Rattle.std.specs.Prelude.{Result, Ok, Err, ⊤}
+use Rattle.refusal.specs.declared.Refusal.{Refusal}
+use Rattle.refusal.specs.Refusal.{refusal_number}
 use Rattle.admission.specs.declared.Answered.{Answered}
-use Rattle.admission.specs.Admission.{with_findings, filled_table, verdict_of, admit_questions, AdmitResult, resulting, admit_result}
+use Rattle.admission.specs.Admission.{with_findings, filled_table, verdict_of, admit_told, door_number, admit_questions, AdmitResult, resulting, admit_result}
 
 -- what questions 11, 12 and 13 ask
 pub record Opened (image map table : List ℕ) : Type 0 where
@@ -45,11 +48,12 @@ module _ (image map table : List ℕ) where
   asked_all o = rw (o.fits, eq-eqb (length map) map_length o.long, eq-eqb (length table) (table_length image) o.room)
 
   -- what is refused was not swept
-  pub unswept : {number : ℕ} {r : Answered} → r ≡ record { answer = Refused number; sweeps = 0 } → resulting (Refused number) 0 table ≡ admit_result image map table
-      → (resulting r.answer r.sweeps table ≡ admit_result image map table) × (r.sweeps ≤ sweep_bound image)
+  pub unswept : {refusal : Refusal} {r : Answered} → r ≡ record { answer = Err refusal; sweeps = 0 }
+      → resulting (Refused (refusal_number refusal)) 0 table ≡ admit_result image map table
+      → (resulting (admit_told r.answer) r.sweeps table ≡ admit_result image map table) × (r.sweeps ≤ sweep_bound image)
   unswept {r} e d =
       let none : r.sweeps ≡ 0 = ap (λ (x : Answered). x.sweeps) e in
-      (ap (λ (x : Answered). resulting x.answer x.sweeps table) e ∙ d, omega arith)
+      (ap (λ (x : Answered). resulting (admit_told x.answer) x.sweeps table) e ∙ d, omega arith)
 
   -- the first no refuses
   pub turned_away_lem : {number : ℕ} → number ≡ first_no (admit_questions image map table) → number ≢ 0
@@ -85,6 +89,11 @@ module _ (image map table : List ℕ) where
     yields e s v w =
         (λ k. resulting ((v ∙ ap (verdict_of image map) e) k) (s k) ((w ∙ ap (λ (t : List ℕ). with_findings image map t t 0 (depths * word_count image)) e) k))
         ∙ sym let_in_lem
+
+-- a door that does not refuse has the number 0
+pub let_through : (r : Result ⊤ Refusal) → ((refusal : Refusal) → r ≡ Err refusal → ⊥) → door_number r ≡ 0
+let_through (Ok open) other = refl
+let_through (Err refusal) other = absurd (other refusal refl)
 
 -- the filled table is one that a loop over its cells can read
 pub least_held : (image filled : List ℕ) → ((k : ℕ) → get_or image k 0 < 256) → image_fits image ≡ true → filled ≡ least_table image → Held image filled

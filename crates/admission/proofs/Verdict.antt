@@ -1,5 +1,5 @@
 -- The answer names the lowest finding, which the loop over the cells keeps. Assumes nothing.
-use mathlib.Core.Path.{◌≡◌, sym, ◌∙◌, ap, subst}
+use mathlib.Core.Path.{◌≡◌, sym, ◌∙◌, ap, subst, subst⁻¹}
 use mathlib.Core.Logic.{◌≢◌}
 use mathlib.Core.List.{List}
 use Prim.Native.Nat.{ℕ, ◌+◌, ◌*◌, ◌/◌, ◌%◌, ◌≤◌, ◌<◌}
@@ -18,8 +18,12 @@ use Rattle.transfer.proofs.First.{first}
 use Rattle.transfer.proofs.Membership.{same_or}
 use Rattle.admission.specs.Admission.{AdmitAnswer}
 use Rattle.admission.specs.Admission.{Admitted, Found}
-use Rattle.admission.specs.declared.Named.{Named}
-use Rattle.admission.specs.Admission.{verdict_of}
+use Rattle.findings.specs.declared.Failure.{Failure}
+use Rattle.findings.specs.Findings.{fault_number, failing}
+use Rattle.std.specs.Prelude.{true, Option, Some, None, Ok, is_none, IfSome, MatchOption}
+use mathlib.Core.Bool.{false≢true}
+use Rattle.findings.proofs.Telling.{fault_some}
+use Rattle.admission.specs.Admission.{verdict_of, admit_told}
 use Rattle.admission.specs.Lowest.{Clear, Lowest}
 use Rattle.admission.proofs.Lowest.{Names, names_one}
 
@@ -89,41 +93,42 @@ module _ (image map table : List ℕ) where
 
 -- ---- the loop
 
--- cell i is the next: nothing is named and no cell before it has a finding, or the lowest one is named
-pub record Telling (image map table : List ℕ) (i : ℕ) (named : Named) : Type 0 where
-  pub none : named.number ≡ 0 → (k : ℕ) → k < i → finding_at image map table k ≡ 0
-  pub found : named.number ≢ 0 → Lowest (word_count image) (cell_finding image map table) named.number named.depth named.address
+-- cell i is the next: nothing is told and no cell before it has a finding, or the lowest one is told
+pub record Telling (image map table : List ℕ) (i : ℕ) (told : Option Failure) : Type 0 where
+  pub none : is_none told ≡ true → (k : ℕ) → k < i → finding_at image map table k ≡ 0
+  pub found : IfSome told (λ f. Lowest (word_count image) (cell_finding image map table) (fault_number f.fault) f.depth f.address)
 
 module _ (image map table : List ℕ) where
-  pub telling_begins : (named : Named) → named.number ≡ 0 → Telling image map table 0 named
-  telling_begins named z = record { none = λ _ k l. absurd (omega arith); found = λ some. absurd (some z) }
+  pub telling_begins : Telling image map table 0 None
+  telling_begins = record { none = λ _ k l. absurd (omega arith); found = tt }
 
-  -- what is found at cell (depth, address) is named where nothing was
-  pub telling_next : (named found : Named) → found.depth < depths → found.address < word_count image
-      → found.number ≡ cell_finding image map table found.depth found.address
-      → Telling image map table (point_at (word_count image) found.depth found.address) named
-      → Telling image map table (point_at (word_count image) found.depth found.address + 1) (pick (eqb named.number 0) found named)
-  telling_next named found deep near e t =
-      pick_cases (Telling image map table (i + 1)) (eqb named.number 0)
-      (λ z.
-      let none = t.none (eqb-true named.number 0 z) in
-      record {
-        none = λ q k l. same_or k i (λ at. ap (finding_at image map table) at ∙ sym e ∙ q) (λ other. none k (omega arith));
-        found = λ some. lowest_at image map table found.number found.depth found.address deep near (sym e) some none;
+  -- what is found at cell (depth, address) is told where nothing was
+  pub telling_next : (depth address : ℕ) (before found kept : Option Failure) → depth < depths → address < word_count image
+      → failing found ≡ cell_finding image map table depth address → IfSome found (λ f. (f.depth ≡ depth) × (f.address ≡ address))
+      → MatchOption before (kept ≡ found) (λ f. kept ≡ Some f)
+      → Telling image map table (point_at (word_count image) depth address) before
+      → Telling image map table (point_at (word_count image) depth address + 1) kept
+  telling_next depth address (Some f) found kept deep near e at k t =
+      subst⁻¹ (Telling image map table (point_at (word_count image) depth address + 1)) k (record { none = λ z. absurd (false≢true z); found = t.found })
+  telling_next depth address None None kept deep near e at k t =
+      subst⁻¹ (Telling image map table (point_at (word_count image) depth address + 1)) k
+      (record { none = λ q j l. same_or j (point_at (word_count image) depth address) (λ here. ap (finding_at image map table) here ∙ sym e) (λ other. t.none refl j (omega arith)); found = tt })
+  telling_next depth address None (Some f) kept deep near e at k t =
+      subst⁻¹ (Telling image map table (point_at (word_count image) depth address + 1)) k
+      (record {
+        none = λ z. absurd (false≢true z);
+        found =
+            subst⁻¹ (λ (d : ℕ). Lowest (word_count image) (cell_finding image map table) (fault_number f.fault) d f.address) at.0
+            (subst⁻¹ (λ (a : ℕ). Lowest (word_count image) (cell_finding image map table) (fault_number f.fault) depth a) at.1
+            (lowest_at image map table (fault_number f.fault) depth address deep near (sym e) (fault_some f.fault) (λ j l. t.none refl j l)));
       })
-      (λ z. record { none = λ q. absurd (eqb-false named.number 0 z q); found = t.found })
-    where
-      i : ℕ
-      i = point_at (word_count image) found.depth found.address
 
   -- past the last cell
-  module _ (i : ℕ) (named : Named) (past : depths * word_count image ≤ i) (t : Telling image map table i named) where
-    pub telling_admitted : named.number ≡ 0 → Admitted ≡ verdict_of image map table
-    telling_admitted z =
-        verdict_only image map table Admitted
-        (λ d a deep near.
-        let inside : point_at (word_count image) d a < depths * word_count image = digits_lt deep near in
-        t.none z (point_at (word_count image) d a) (omega arith))
-
-    pub telling_found : named.number ≢ 0 → Found named.number named.depth named.address ≡ verdict_of image map table
-    telling_found some = verdict_only image map table (Found named.number named.depth named.address) (t.found some)
+  pub telling_ends : (i : ℕ) (told : Option Failure) → depths * word_count image ≤ i → Telling image map table i told
+      → admit_told (Ok told) ≡ verdict_of image map table
+  telling_ends i None past t =
+      verdict_only image map table Admitted
+      (λ d a deep near.
+      let inside : point_at (word_count image) d a < depths * word_count image = digits_lt deep near in
+      t.none refl (point_at (word_count image) d a) (omega arith))
+  telling_ends i (Some f) past t = verdict_only image map table (Found (fault_number f.fault) f.depth f.address) t.found

@@ -17,7 +17,7 @@ use refusal::Refusal;
 
 // What admission answers: none where the program is admitted, or the cell with a finding that has the lowest depth, and
 // among those the lowest address; or a refusal at the door. Beside it the count of sweeps that changed the table.
-#[derive(Clone, Copy, Debug, PartialEq, Eq)]
+#[derive(Clone, Copy, PartialEq, Eq)]
 pub struct Answered {
     pub answer: Result<Option<Failure>, Refusal>,
     pub sweeps: usize,

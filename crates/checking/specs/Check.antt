@@ -1,5 +1,5 @@
 -- A table that came along (2026-09 of document 02): when it is accepted with an image and a map, and which cell fails.
-use Rattle.std.specs.Prelude.{◌≡◌, Bool, true, List, [], ◌∷◌, ℕ, ◌*◌, ◌/◌, ◌%◌, ◌<◌, ltb, eqb, length, take, drop}
+use Rattle.std.specs.Prelude.{◌≡◌, Bool, true, List, [], ◌∷◌, ℕ, ◌*◌, ◌/◌, ◌%◌, ◌<◌, ltb, eqb, length, take, drop, Option, Some, None, Result, Ok, Err}
 use Rattle.choice.specs.Choice.{pick, asked}
 use Rattle.map.specs.Map.{map_length}
 use Rattle.machine.specs.Step.{word_count}
@@ -10,8 +10,25 @@ use Rattle.records.specs.Records.{record_fits}
 use Rattle.transfer.specs.Passes.{passes_from, table_space, table_length}
 use Rattle.transfer.specs.Findings.{finding_at, first_of, NoFinding}
 use Rattle.admission.specs.Admission.{admit_questions}
-use Rattle.checking.specs.Check.{CheckAnswer}
-use Rattle.checking.specs.Check.{Refused, Accepted, Failed}
+use Rattle.refusal.specs.declared.Refusal.{Refusal}
+use Rattle.refusal.specs.Refusal.{refusal_number}
+use Rattle.findings.specs.declared.Failure.{Failure}
+use Rattle.findings.specs.Findings.{fault_number}
+
+-- What a check answers: a refusal at the door; accepted; or what the first cell that fails fails with.
+pub data CheckAnswer : Type 0 where
+  Refused : ℕ → CheckAnswer
+  Accepted : CheckAnswer
+  Failed : ℕ → ℕ → ℕ → CheckAnswer
+
+-- what the code answers past the door, and in all
+abbrev pub judged_as : Option Failure → CheckAnswer
+judged_as None = Accepted
+judged_as (Some failure) = Failed (fault_number failure.fault) failure.depth failure.address
+
+abbrev pub check_told : Result (Option Failure) Refusal → CheckAnswer
+check_told (Ok failure) = judged_as failure
+check_told (Err refusal) = Refused (refusal_number refusal)
 
 -- "Every record has the layout of document 01 with byte 1 zero and OVF unknown, 0 or 1, else 42"
 abbrev pub layout_at : List ℕ → ℕ → ℕ

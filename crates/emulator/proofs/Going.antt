@@ -15,8 +15,7 @@ use Rattle.machine.specs.declared.Effect.{Effect}
 use Rattle.machine.specs.declared.Event.{Event}
 use Rattle.machine.specs.declared.Event.TheVariants.{Quiet, Address, Data, Stopped}
 use Rattle.machine.specs.declared.Stop.{Stop}
-use Rattle.machine.specs.declared.Stop.TheVariants.{Outside, Invalid, Unreadable, Unwritable, Unlisted, Full, Empty}
-use Rattle.machine.specs.Parts.{whole, outcome, event_stop, stop_number}
+use Rattle.machine.specs.Parts.{whole, outcome, event_stop}
 use Rattle.machine.specs.Step.{word_count, Step, step_from, stepped}
 use Rattle.machine.proofs.Keeps.{Sound, SoundOutcome, outcome_of, step_sound}
 use Rattle.emulator.specs.Run.{pair_length, pair_count, record_length, record_of, Ran, no_step, after, ran_over, written_over}
@@ -247,18 +246,9 @@ module _ {image map recording start : List ℕ} {s₀ : State} {i : ℕ} {trace 
             ends image map recording start s₀ (i + 1) (last_state (record { q = e.q; count = i + 1; stop = n }) v' l' r') back door.room (next n hn)
             (ran_stopped image map (drop (pair_length * (i + 1)) recording) _ stopped)
 
--- what is no stop has no number, and a stop has one
+-- what is no stop has no number
 pub running_on : (e : Event) → ((why : Stop) → e ≡ Stopped why → ⊥) → event_stop e ≡ 0
 running_on Quiet other = refl
 running_on (Address bank address) other = refl
 running_on (Data bank address byte) other = refl
 running_on (Stopped why) other = absurd (other why refl)
-
-pub some_stop : (why : Stop) → stop_number why ≡ 0 → ⊥
-some_stop Outside z = absurd (omega arith)
-some_stop Invalid z = absurd (omega arith)
-some_stop Unreadable z = absurd (omega arith)
-some_stop Unwritable z = absurd (omega arith)
-some_stop Unlisted z = absurd (omega arith)
-some_stop Full z = absurd (omega arith)
-some_stop Empty z = absurd (omega arith)

@@ -6,7 +6,12 @@ use Prim.Native.Nat.{ℕ}
 use lib.Dec.{eqb}
 use borrow.Author.Tests.{ne_eqb, eqb-true}
 use Rattle.choice.specs.Choice.{pick, Question, ask, first_no}
-use Rattle.findings.specs.Findings.{Tells}
+use native.Mathlib.Omega.{arith}
+use Rattle.std.specs.Prelude.{Result, Ok, Err, IsErrAnd, ⊤}
+use Rattle.findings.specs.declared.Fault.{Fault}
+use Rattle.findings.specs.declared.Fault.TheVariants.{Stop, Unknown, Executed, Layout, Unheld}
+use Rattle.machine.proofs.Stops.{some_stop}
+use Rattle.findings.specs.Findings.{fault_number, finding_number, Tells}
 
 pub tells_none : Tells 0 []
 tells_none = λ rest. refl
@@ -32,3 +37,16 @@ none_or r false e = refl
 -- all the questions: the first no, or 0
 pub tells_first : (r : ℕ) (ps : List Question) → Tells r ps → first_no ps ≡ r
 tells_first r ps p = sym (ap first_no (append-nil ps)) ∙ p [] ∙ none_or r (eqb r 0) refl
+
+-- a fault has a number
+pub fault_some : (fault : Fault) → fault_number fault ≡ 0 → ⊥
+fault_some (Stop why) z = some_stop why z
+fault_some Unknown z = absurd (omega arith)
+fault_some Executed z = absurd (omega arith)
+fault_some Layout z = absurd (omega arith)
+fault_some Unheld z = absurd (omega arith)
+
+-- what `?` hands on is the fault that came
+pub handed_on : (r : Result ⊤ Fault) {fault : Fault} → IsErrAnd r (λ e. e ≡ fault) → fault_number fault ≡ finding_number r
+handed_on (Ok fine) none = absurd none
+handed_on (Err e) same = ap fault_number (sym same)

@@ -3,17 +3,12 @@ use Rattle.std.specs.Prelude.{◌≡◌, List, ◌++◌, ℕ, eqb, Option, Some,
 use Rattle.choice.specs.Choice.{pick, Question, first_no}
 use Rattle.findings.specs.declared.Failure.{Failure}
 use Rattle.findings.specs.declared.Fault.{Fault}
-use Rattle.findings.specs.declared.Fault.TheVariants.{Outside, Invalid, Unreadable, Unwritable, Unlisted, Full, Empty, Unknown, Executed, Layout, Unheld}
+use Rattle.findings.specs.declared.Fault.TheVariants.{Stop, Unknown, Executed, Layout, Unheld}
+use Rattle.machine.specs.Parts.{stop_number}
 
--- the number of each ("Cell questions" of document 01; 42 and 43 of a table that came along, 2026-09 of document 02)
+-- the number of each (28 and 29 by "Cell questions" of document 01; 42 and 43 of a table that came along, 2026-09 of document 02)
 abbrev pub fault_number : Fault → ℕ
-fault_number Outside = 21
-fault_number Invalid = 22
-fault_number Unreadable = 23
-fault_number Unwritable = 24
-fault_number Unlisted = 25
-fault_number Full = 26
-fault_number Empty = 27
+fault_number (Stop why) = stop_number why
 fault_number Unknown = 28
 fault_number Executed = 29
 fault_number Layout = 42

@@ -19,18 +19,14 @@ ghost use Rattle.findings.specs.Findings.{fault_number, finding_number, Tells};
 use control::Paged;
 use facts::UNKNOWN;
 use forms::Form;
+use machine::Stop;
 use machine::act::{Argument, Delivery, Operation};
 
-// What a cell fails with: a finding, or for a table that came along its layout or a next cell.
-#[derive(Clone, Copy, Debug, PartialEq, Eq)]
+// What a cell fails with: a stop that may come, an address or value that is not known, an XEC that may execute an XEC;
+// and for a table that came along, the layout of its record, or a next cell that does not hold what is passed on.
+#[derive(Clone, Copy, PartialEq, Eq)]
 pub enum Fault {
-    Outside,
-    Invalid,
-    Unreadable,
-    Unwritable,
-    Unlisted,
-    Full,
-    Empty,
+    Stop(Stop),
     Unknown,
     Executed,
     Layout,
@@ -43,13 +39,7 @@ impl Fault {
         ensures { result ≡ fault_number self }
     {
         match self {
-            Fault::Outside => 21,
-            Fault::Invalid => 22,
-            Fault::Unreadable => 23,
-            Fault::Unwritable => 24,
-            Fault::Unlisted => 25,
-            Fault::Full => 26,
-            Fault::Empty => 27,
+            Fault::Stop(why) => why.number(),
             Fault::Unknown => 28,
             Fault::Executed => 29,
             Fault::Layout => 42,
@@ -59,7 +49,7 @@ impl Fault {
 }
 
 // The cell that fails, and with what.
-#[derive(Clone, Copy, Debug, PartialEq, Eq)]
+#[derive(Clone, Copy, PartialEq, Eq)]
 pub struct Failure {
     pub fault: Fault,
     pub depth: usize,
@@ -80,7 +70,7 @@ fn read_finding(map: &[u8], facts: [u16; 11], s: usize) -> Result<(), Fault>
         return Err(Fault::Unknown);
     }
     if !map::readable(map, bank, usize::from(a)) {
-        return Err(Fault::Unreadable);
+        return Err(Fault::Stop(Stop::Unreadable));
     }
     Ok(())
 }
@@ -99,7 +89,7 @@ fn target_finding(map: &[u8], facts: [u16; 11], d: usize, y: u16) -> Result<(), 
             return Err(Fault::Unknown);
         }
         if !map::listed(map, k - state::ADDRESS, usize::from(y)) {
-            return Err(Fault::Unlisted);
+            return Err(Fault::Stop(Stop::Unlisted));
         }
         return Ok(());
     }
@@ -109,7 +99,7 @@ fn target_finding(map: &[u8], facts: [u16; 11], d: usize, y: u16) -> Result<(), 
         return Err(Fault::Unknown);
     }
     if !map::writable(map, bank, usize::from(a)) {
-        return Err(Fault::Unwritable);
+        return Err(Fault::Stop(Stop::Unwritable));
     }
     Ok(())
 }
@@ -121,7 +111,7 @@ fn next_finding(image: &[u8], a: usize) -> Result<(), Fault>
     if a < image.len() / 2 {
         Ok(())
     } else {
-        Err(Fault::Outside)
+        Err(Fault::Stop(Stop::Outside))
     }
 }
 
@@ -183,7 +173,7 @@ fn branch_finding(
     if on & off {
         Ok(())
     } else {
-        Err(Fault::Outside)
+        Err(Fault::Stop(Stop::Outside))
     }
 }
 
@@ -193,7 +183,7 @@ fn call_finding(image: &[u8], depth: usize, pc: usize, facts: [u16; 11], i: u8) 
     ensures { (map table : List ℕ) → Tells (finding_number result) (word_findings image.now map table depth pc facts (go (register 0 0 0) (call i))) }
 {
     if state::PLACES <= depth {
-        return Err(Fault::Full);
+        return Err(Fault::Stop(Stop::Full));
     }
     let v = callers::values_of(facts, 0, 0);
     if v.count != 1 {
@@ -203,7 +193,7 @@ fn call_finding(image: &[u8], depth: usize, pc: usize, facts: [u16; 11], i: u8) 
     if (v.low * 256 + usize::from(i) < words) & (pc + 1 < words) {
         Ok(())
     } else {
-        Err(Fault::Outside)
+        Err(Fault::Stop(Stop::Outside))
     }
 }
 
@@ -212,12 +202,12 @@ fn return_finding(depth: usize, back: bool) -> Result<(), Fault>
     ensures { (image map table facts : List ℕ) (pc : ℕ) → back ≡ all_below (word_count image) (word_count image) (is_call_site image table (depth - 1)) → Tells (finding_number result) (word_findings image map table depth pc facts (go (constant 0) return)) }
 {
     if depth == 0 {
-        return Err(Fault::Empty);
+        return Err(Fault::Stop(Stop::Empty));
     }
     if back {
         Ok(())
     } else {
-        Err(Fault::Outside)
+        Err(Fault::Stop(Stop::Outside))
     }
 }
 
@@ -241,7 +231,7 @@ fn word_finding(
         Form::Defer(w) => read_finding(map, facts, w.s),
         Form::Call { i } => call_finding(image, depth, pc, facts, i),
         Form::Return => return_finding(depth, back),
-        Form::Invalid => Err(Fault::Invalid),
+        Form::Invalid => Err(Fault::Stop(Stop::Invalid)),
     }
 }
 
@@ -265,10 +255,10 @@ fn executed_finding(
     ensures { (table : List ℕ) → back ≡ all_below (word_count image.now) (word_count image.now) (is_call_site image.now table (depth - 1)) → Tells (finding_number result) (executed_findings image.now map.now table depth pc facts a) }
 {
     if image.len() / 2 <= a {
-        return Err(Fault::Outside);
+        return Err(Fault::Stop(Stop::Outside));
     }
     let Some(word) = processor::fetched_of(processor::word_at(image, a)) else {
-        return Err(Fault::Invalid);
+        return Err(Fault::Stop(Stop::Invalid));
     };
     let form = forms::form_of(word);
     if is_xec(form) {
@@ -353,7 +343,7 @@ pub fn cell_finding(image: &[u8], map: &[u8], table: &[u8], depth: usize, pc: us
     }
     let facts = c.facts;
     let Some(word) = processor::fetched_of(processor::word_at(image, pc)) else {
-        return Err(Fault::Invalid);
+        return Err(Fault::Stop(Stop::Invalid));
     };
     let form = forms::form_of(word);
     let back = returns_inside(image, table, below(depth));

@@ -1,25 +1,28 @@
 -- `admission::admit` meets its contract: a law for each way out. Assumes nothing.
+use mathlib.Core.Path.{sym, ap, ◌∙◌}
 use native.Mathlib.Omega.{arith}
 use Rattle.emulator.proofs.Door.{image_some, image_words}
-use Rattle.admission.proofs.Opening.{unswept, turned_away_lem, opened, yields, least_held}
+use Rattle.refusal.proofs.Laws.{some_refusal}
+use Rattle.admission.specs.Admission.{door_number}
+use Rattle.admission.proofs.Opening.{unswept, turned_away_lem, opened, let_through, yields, least_held}
 use Rattle.admission.proofs.admit.Goals as goal
 
-pub returns-then-number-ne0 : goal.returns-then-number-ne0
-returns-then-number-ne0 c =
+pub returns-in-Err : goal.returns-in-Err
+returns-in-Err c =
     let a = c.args in
     unswept a.image.now a.map.now a.table.now c.refused.ensures
-    (turned_away_lem a.image.now a.map.now a.table.now c.door-number.ensures c.if-number-ne0.true)
+    (turned_away_lem a.image.now a.map.now a.table.now (sym (ap door_number c.in-Err.is) ∙ c.door.ensures) (some_refusal c.in-Err.refusal))
 
 pub fill-sweeps-requires : goal.fill-sweeps-requires
 fill-sweeps-requires c =
     let a = c.args in
-    let way = opened a.image.now a.map.now a.table.now c.door-number.ensures c.if-number-ne0.false in
+    let way = opened a.image.now a.map.now a.table.now c.door.ensures (let_through c.door.result c.in_default.not-Err) in
     (image_some a.image.now way.fits, image_words a.image.now way.fits, omega (arith, way.room))
 
-pub mark-answer-requires : goal.mark-answer-requires
-mark-answer-requires c =
+pub mark-first-requires : goal.mark-first-requires
+mark-first-requires c =
     let a = c.args in
-    let way = opened a.image.now a.map.now a.table.now c.door-number.ensures c.if-number-ne0.false in (
+    let way = opened a.image.now a.map.now a.table.now c.door.ensures (let_through c.door.result c.in_default.not-Err) in (
       least_held a.image.now _ (λ k. (c.type_inv.image k).fits) way.fits c.fill-sweeps.ensures.0,
       way.long,
       image_some a.image.now way.fits,
@@ -28,8 +31,8 @@ mark-answer-requires c =
 pub returns : goal.returns
 returns c =
     let a = c.args in
-    let way = opened a.image.now a.map.now a.table.now c.door-number.ensures c.if-number-ne0.false in
+    let way = opened a.image.now a.map.now a.table.now c.door.ensures (let_through c.door.result c.in_default.not-Err) in
     let filled = c.fill-sweeps.ensures in (
-      yields a.image.now a.map.now a.table.now way filled.0 filled.1 c.mark-answer.ensures.0 c.mark-answer.ensures.1,
+      yields a.image.now a.map.now a.table.now way filled.0 filled.1 c.mark-first.ensures.0 c.mark-first.ensures.1,
       filled.2,
     )

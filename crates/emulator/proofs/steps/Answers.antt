@@ -7,7 +7,8 @@ use Prim.Native.Nat.{◌*◌}
 use lib.ListN.{drop, length-drop}
 use Rattle.machine.specs.Parts.{whole}
 use Rattle.emulator.specs.Run.{pair_length, pair_count}
-use Rattle.emulator.proofs.Going.{begins, ends, ran_none, room_second, room_first, event_fits, as_long, again, stops, running_on, some_stop}
+use Rattle.emulator.proofs.Going.{begins, ends, ran_none, room_second, room_first, event_fits, as_long, again, stops, running_on}
+use Rattle.machine.proofs.Stops.{some_stop}
 use Rattle.emulator.proofs.steps.Goals as goal
 
 pub loop-i-init : goal.loop-i-init
