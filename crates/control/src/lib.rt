@@ -1,17 +1,41 @@
 // Words that direct PC: XEC, NZT, CALL, RET, JMP.
 #![tactic(auto)]
 
-ghost use Rattle.std.specs.Prelude.{◌≡◌, List, [], ◌∷◌, ℕ, ◌<◌, ◌≤◌};
-ghost use Rattle.machine.specs.Shape.{source_of, register, constant, go, branch, defer, call, return};
+ghost use Rattle.std.specs.Prelude.{◌≡◌, List, ℕ, ◌<◌, ◌≤◌};
+ghost use Rattle.machine.specs.Shape.{register, constant, go, call, return};
 ghost use Rattle.machine.specs.Step.{in_page, word_step};
-ghost use Rattle.machine.specs.Parts.{whole, outcome, go_effect, defer_effect, Ready, IsPage};
+ghost use Rattle.machine.specs.Parts.{whole, outcome, go_effect, defer_effect, Ready};
+ghost use Rattle.control.specs.Pages.{page_size, branch_shape, defer_shape};
 
 use machine::{Effect, Sequencer};
 
 // A page has 256 addresses, or 32 for a word that reads a bank.
-pub const LONG_PAGE: usize = 256;
+#[derive(Clone, Copy, PartialEq, Eq)]
+pub enum Page {
+    Long,
+    Short,
+}
 
-pub const SHORT_PAGE: usize = 32;
+impl Page {
+    // Its addresses.
+    pub fn size(self) -> usize
+        ensures { (result ≡ page_size self) × (0 < result) × (result ≤ 256) }
+    {
+        match self {
+            Page::Long => 256,
+            Page::Short => 32,
+        }
+    }
+}
+
+// What XEC and NZT have: the source's number, the length of a bank's field, the page, the constant.
+#[derive(Clone, Copy)]
+pub struct Paged {
+    pub s: usize,
+    pub l: usize,
+    pub page: Page,
+    pub i: u8,
+}
 
 // On at another PC; flag and pending address zero.
 pub fn go_to(pc: usize, depth: usize) -> Effect
@@ -46,72 +70,44 @@ fn defer_to(q: Sequencer, pending: usize) -> Effect
 }
 
 // PC with x, kept to the page's width, in the place of its low bits.
-pub fn in_page(page: usize, pc: usize, x: usize) -> usize
-    requires { IsPage page × (pc < 8192) }
-    ensures { result ≡ in_page page pc x }
+pub fn in_page(page: Page, pc: usize, x: usize) -> usize
+    requires { pc < 8192 }
+    ensures { result ≡ in_page (page_size page) pc x }
 {
-    if page == LONG_PAGE {
-        return pc / LONG_PAGE * LONG_PAGE + x % LONG_PAGE;
-    }
-    pc / SHORT_PAGE * SHORT_PAGE + x % SHORT_PAGE
+    let size = page.size();
+    pc / size * size + x % size
 }
 
-fn wide_number(x: u16) -> usize
-    ensures { result ≡ x }
+// XEC of a register or of a bank's field.
+pub fn xec(map: &[u8], bus: [u8; 2], w: Paged, q: Sequencer, values: &[u8; 11]) -> Effect
+    requires { Ready map.now q × (w.l < 8) }
+    ensures { (a b : List ℕ) → outcome result values.now a b ≡ word_step map.now (defer_shape w) bus (whole q values.now a b) }
 {
-    x as usize
-}
-
-// XEC of a register or of a bank's field of length l.
-pub fn xec(
-    map: &[u8],
-    left: u8,
-    right: u8,
-    s: usize,
-    l: usize,
-    page: usize,
-    i: usize,
-    q: Sequencer,
-    values: &[u8; 11],
-) -> Effect
-    requires { Ready map.now q × (l < 8) × IsPage page × (i < 256) }
-    ensures { (a b : List ℕ) → outcome result values.now a b ≡ word_step map.now (go (source_of s 0 0 l) (defer page i)) (left ∷ right ∷ []) (whole q values.now a b) }
-{
-    if !machine::act::may_read(map, values, s) {
+    if !machine::act::may_read(map, values, w.s) {
         return machine::stop(q, 23);
     }
-    let x = machine::wide(machine::act::operand(values, left, right, s, 0, l));
-    defer_to(q, in_page(page, q.pc, i + x))
+    let x = usize::from(machine::act::operand(values, bus, w.s, 0, w.l));
+    defer_to(q, in_page(w.page, q.pc, usize::from(w.i) + x))
 }
 
-// NZT of a register or of a bank's field of length l.
-pub fn nzt(
-    map: &[u8],
-    left: u8,
-    right: u8,
-    s: usize,
-    l: usize,
-    page: usize,
-    i: usize,
-    q: Sequencer,
-    values: &[u8; 11],
-) -> Effect
-    requires { Ready map.now q × (l < 8) × IsPage page }
-    ensures { (a b : List ℕ) → outcome result values.now a b ≡ word_step map.now (go (source_of s 0 0 l) (branch page i)) (left ∷ right ∷ []) (whole q values.now a b) }
+// NZT of a register or of a bank's field.
+pub fn nzt(map: &[u8], bus: [u8; 2], w: Paged, q: Sequencer, values: &[u8; 11]) -> Effect
+    requires { Ready map.now q × (w.l < 8) }
+    ensures { (a b : List ℕ) → outcome result values.now a b ≡ word_step map.now (branch_shape w) bus (whole q values.now a b) }
 {
-    if !machine::act::may_read(map, values, s) {
+    if !machine::act::may_read(map, values, w.s) {
         return machine::stop(q, 23);
     }
-    let x = machine::act::operand(values, left, right, s, 0, l);
+    let x = machine::act::operand(values, bus, w.s, 0, w.l);
     if x == 0 {
         return go_to(q.pc + 1, q.depth);
     }
-    go_to(in_page(page, q.pc, i), q.depth)
+    go_to(in_page(w.page, q.pc, usize::from(w.i)), q.depth)
 }
 
 // CALL: the page is AUX.
-pub fn call(i: usize, q: Sequencer, values: &[u8; 11], returns: &mut [u16; 8]) -> Effect
-    requires { (q.pc < 8192) × (q.depth ≤ 8) × (i < 256) }
+pub fn call(i: u8, q: Sequencer, values: &[u8; 11], returns: &mut [u16; 8]) -> Effect
+    requires { (q.pc < 8192) × (q.depth ≤ 8) }
     ensures { (map bus l : List ℕ) → outcome result values.now l returns.new ≡ word_step map (go (register 0 0 0) (call i)) bus (whole q values.now l returns.old) }
 {
     let depth = q.depth;
@@ -119,7 +115,7 @@ pub fn call(i: usize, q: Sequencer, values: &[u8; 11], returns: &mut [u16; 8]) -
         return machine::stop(q, 26);
     }
     returns[depth] = (q.pc + 1) as u16;
-    go_to(machine::wide(values[0]) * 256 + i, depth + 1)
+    go_to(usize::from(values[0]) * 256 + usize::from(i), depth + 1)
 }
 
 // RET: pops into PC and zeroes the popped place.
@@ -132,7 +128,7 @@ pub fn ret(q: Sequencer, returns: &mut [u16; 8]) -> Effect
         return machine::stop(q, 27);
     }
     let at = depth - 1;
-    let pc = wide_number(returns[at]);
+    let pc = usize::from(returns[at]);
     returns[at] = 0;
     go_to(pc, at)
 }

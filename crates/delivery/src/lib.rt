@@ -1,27 +1,21 @@
 // Words that deliver a source to a target: MOVE, ADD, AND, XOR, XMIT.
 #![tactic(auto)]
 
-ghost use Rattle.std.specs.Prelude.{◌≡◌, List, [], ◌∷◌, ℕ, ◌<◌, length};
+ghost use Rattle.std.specs.Prelude.{◌≡◌, List, ℕ, ◌<◌, length};
 ghost use Rattle.map.specs.Map.{map_length};
 ghost use Rattle.machine.specs.Shape.{target_of, slot, latch, bank_of, position_of};
 ghost use Rattle.machine.specs.Step.{value_of, with_overflow, may_read, word_step};
-ghost use Rattle.machine.specs.Parts.{whole, outcome, act_effect, masked_into, delivered, taken_source, delivery_source, shape_of_delivery, Ready};
+ghost use Rattle.machine.specs.Parts.{whole, outcome, act_effect, operation_number, masked_into, delivered, taken_source, delivery_source, shape_of_delivery, Ready};
 
-use machine::act::Delivery;
+use machine::act::{Argument, Delivery, Operation};
 use machine::{Effect, Sequencer};
 
-fn narrow(x: usize) -> u8
-    requires { x < 256 }
-    ensures { result ≡ x }
-{
-    x as u8
-}
-
 // ADD alone sets OVF.
-fn set_overflow(op: usize, aux: u8, x: u8, values: &mut [u8; 11])
-    ensures { values.new ≡ with_overflow op aux x values.old }
+#[tactic(auto, unfolding(machine::specs::Step::with_overflow))]
+fn set_overflow(op: Operation, aux: u8, x: u8, values: &mut [u8; 11])
+    ensures { values.new ≡ with_overflow (operation_number op) aux x values.old }
 {
-    if op == 1 {
+    if matches!(op, Operation::Add) {
         values[state::OVERFLOW] = field::carry(aux, x);
     }
 }
@@ -44,30 +38,36 @@ fn went(q: Sequencer, kind: usize, address: usize, written: usize) -> Effect
 }
 
 // To a register or a bus address, by its slot.
-fn to_slot(map: &[u8], op: usize, x: u8, k: usize, q: Sequencer, values: &mut [u8; 11]) -> Effect
+fn to_slot(
+    map: &[u8],
+    op: Operation,
+    x: u8,
+    k: usize,
+    q: Sequencer,
+    values: &mut [u8; 11],
+) -> Effect
     requires { Ready map.now q × (k < 11) }
-    ensures { (l s : List ℕ) → outcome result values.new l s ≡ delivered map.now op x (slot k) (whole q values.old l s) }
+    ensures { (l s : List ℕ) → outcome result values.new l s ≡ delivered map.now (operation_number op) x (slot k) (whole q values.old l s) }
 {
     let aux = values[0];
+    let y = machine::act::result(op, aux, x);
     if k < state::ADDRESS {
-        let y = machine::act::result(op, aux, x);
         set_overflow(op, aux, x, values);
         values[k] = y;
         return went(q, 0, 0, 0);
     }
-    let y = machine::act::result(op, aux, x);
-    if !map::listed(map, k - state::ADDRESS, machine::wide(y)) {
+    if !map::listed(map, k - state::ADDRESS, usize::from(y)) {
         return machine::stop(q, 25);
     }
     set_overflow(op, aux, x, values);
     values[k] = y;
-    went(q, k + 1 - state::ADDRESS, machine::wide(values[k]), 0)
+    went(q, k + 1 - state::ADDRESS, usize::from(values[k]), 0)
 }
 
 // To a bank: merged into its latch, which is then the byte written at its address.
 fn to_latch(
     map: &[u8],
-    op: usize,
+    op: Operation,
     x: u8,
     d: usize,
     l: usize,
@@ -76,11 +76,11 @@ fn to_latch(
     latches: &mut [u8; 2],
 ) -> Effect
     requires { Ready map.now q × (l < 8) }
-    ensures { (s : List ℕ) → outcome result values.new latches.new s ≡ delivered map.now op (masked_into op l d x) (latch (bank_of d) (position_of d) l) (whole q values.old latches.old s) }
+    ensures { (s : List ℕ) → outcome result values.new latches.new s ≡ delivered map.now (operation_number op) (masked_into (operation_number op) l d x) (latch (bank_of d) (position_of d) l) (whole q values.old latches.old s) }
 {
     let aux = values[0];
     let bank = d / 8 % 2;
-    if !map::writable(map, bank, machine::wide(values[state::ADDRESS + bank])) {
+    if !map::writable(map, bank, usize::from(values[state::ADDRESS + bank])) {
         return machine::stop(q, 24);
     }
     let summand = machine::act::masked(op, x, l, d);
@@ -90,15 +90,15 @@ fn to_latch(
     went(
         q,
         3 + bank,
-        machine::wide(values[state::ADDRESS + bank]),
-        machine::wide(latches[bank]),
+        usize::from(values[state::ADDRESS + bank]),
+        usize::from(latches[bank]),
     )
 }
 
 // Delivers the source x to the target d, of length l in a bank.
 fn deliver(
     map: &[u8],
-    op: usize,
+    op: Operation,
     x: u8,
     d: usize,
     l: usize,
@@ -107,7 +107,7 @@ fn deliver(
     latches: &mut [u8; 2],
 ) -> Effect
     requires { Ready map.now q × (l < 8) }
-    ensures { (s : List ℕ) → outcome result values.new latches.new s ≡ delivered map.now op (masked_into op l d x) (target_of d l) (whole q values.old latches.old s) }
+    ensures { (s : List ℕ) → outcome result values.new latches.new s ≡ delivered map.now (operation_number op) (masked_into (operation_number op) l d x) (target_of d l) (whole q values.old latches.old s) }
 {
     if d < word::FIRST_BANK {
         let k = machine::act::slot_of(d);
@@ -121,48 +121,42 @@ fn may_take(map: &[u8], values: &[u8; 11], a: Delivery) -> bool
     requires { length map.now ≡ map_length }
     ensures { result ≡ may_read map.now (delivery_source a) values.now }
 {
-    let kind = a.kind;
-    if kind == 1 {
-        return true;
+    match a.from {
+        Argument::Number(s) => machine::act::may_read(map, values, s),
+        Argument::Constant(_) => true,
     }
-    machine::act::may_read(map, values, a.s)
 }
 
 // The source, before ADD's mask.
-fn argument(values: &[u8; 11], left: u8, right: u8, a: Delivery) -> u8
-    requires { (a.rl < 8) × (a.i < 256) }
-    ensures { result ≡ value_of (taken_source a) values.now (left ∷ right ∷ []) }
+fn argument(values: &[u8; 11], bus: [u8; 2], a: Delivery) -> u8
+    requires { a.l < 8 }
+    ensures { result ≡ value_of (taken_source a) values.now bus }
 {
-    let kind = a.kind;
-    if kind == 1 {
-        return narrow(a.i);
+    match a.from {
+        Argument::Number(s) => {
+            let places = machine::act::places(a.l, a.d);
+            machine::act::operand(values, bus, s, places, a.l)
+        }
+        Argument::Constant(i) => i,
     }
-    machine::act::operand(
-        values,
-        left,
-        right,
-        a.s,
-        machine::act::places(a.rl, a.d),
-        a.rl,
-    )
 }
 
-// MOVE, ADD, AND, XOR, XMIT.
+// MOVE, ADD, AND, XOR, XMIT. The values, the latches and the call stack are lent apart from the sequencer, here and above, so
+// that they stay in place in the loop over steps.
 pub fn act(
     map: &[u8],
-    left: u8,
-    right: u8,
+    bus: [u8; 2],
     a: Delivery,
     q: Sequencer,
     values: &mut [u8; 11],
     latches: &mut [u8; 2],
 ) -> Effect
-    requires { Ready map.now q × (a.rl < 8) × (a.i < 256) }
-    ensures { (t : List ℕ) → outcome result values.new latches.new t ≡ word_step map.now (shape_of_delivery a) (left ∷ right ∷ []) (whole q values.old latches.old t) }
+    requires { Ready map.now q × (a.l < 8) }
+    ensures { (t : List ℕ) → outcome result values.new latches.new t ≡ word_step map.now (shape_of_delivery a) bus (whole q values.old latches.old t) }
 {
     if !may_take(map, values, a) {
         return machine::stop(q, 23);
     }
-    let x = argument(values, left, right, a);
-    deliver(map, a.op, x, a.d, a.rl, q, values, latches)
+    let x = argument(values, bus, a);
+    deliver(map, a.op, x, a.d, a.l, q, values, latches)
 }

@@ -1,4 +1,4 @@
-// A decoded word in the form that everything above decoding goes over: one case for each shape, told in numbers. This is
+// A decoded word in the form that everything above decoding goes over: one case for each shape. This is
 // the only place that turns kinds of words into something else than their fields.
 #![tactic(auto)]
 
@@ -8,96 +8,88 @@ ghost use Rattle.machine.specs.Shape.{shape_of};
 ghost use Rattle.machine.specs.Parts.{operation_of, transmission_of};
 ghost use Rattle.forms.specs.Forms.{shape_is, FormFits};
 
-use control::{LONG_PAGE, SHORT_PAGE};
-use machine::act::Delivery;
+use control::{Page, Paged};
+use machine::act::{Argument, Delivery, Operation};
 use word::Word;
 
-// s is the number of the source, a register or a bank, l the length of a bank's field, page the page's width.
 #[derive(Clone, Copy)]
 pub enum Form {
     Act(Delivery),
-    Jump {
-        a: usize,
-    },
-    Branch {
-        s: usize,
-        l: usize,
-        page: usize,
-        i: usize,
-    },
-    Defer {
-        s: usize,
-        l: usize,
-        page: usize,
-        i: usize,
-    },
-    Call {
-        i: usize,
-    },
+    Jump { a: usize },
+    Branch(Paged),
+    Defer(Paged),
+    Call { i: u8 },
     Return,
     Invalid,
 }
 
-// MOVE, ADD, AND, XOR: opcode 0 to 3.
-fn operation(op: usize, s: usize, rl: usize, d: usize) -> Form
-    ensures { result ≡ Form.Act (operation_of op s rl d) }
+// MOVE, ADD, AND, XOR.
+fn operation(op: Operation, s: usize, l: usize, d: usize) -> Form
+    ensures { result ≡ Form.Act (operation_of op s l d) }
 {
     Form::Act(Delivery {
-        kind: 0,
         op,
-        s,
-        rl,
+        from: Argument::Number(s),
+        l,
         d,
-        i: 0,
     })
 }
 
 // XMIT.
-fn transmission(d: usize, l: usize, i: usize) -> Form
+fn transmission(d: usize, l: usize, i: u8) -> Form
     ensures { result ≡ Form.Act (transmission_of d l i) }
 {
     Form::Act(Delivery {
-        kind: 1,
-        op: 0,
-        s: 0,
-        rl: l,
+        op: Operation::Move,
+        from: Argument::Constant(i),
+        l,
         d,
-        i,
     })
 }
 
-// NZT.
-fn branching(s: usize, l: usize, page: usize, i: usize) -> Form
-    ensures { result ≡ Form.Branch s l page i }
+// XEC or NZT of a register.
+fn of_register(s: usize, i: u8) -> Paged
+    ensures { result ≡ record { s = s; l = 0; page = Page.Long; i = i } }
 {
-    Form::Branch { s, l, page, i }
+    Paged {
+        s,
+        l: 0,
+        page: Page::Long,
+        i,
+    }
 }
 
-// XEC.
-fn deferring(s: usize, l: usize, page: usize, i: usize) -> Form
-    ensures { result ≡ Form.Defer s l page i }
+// XEC or NZT of a bank.
+fn of_bank(s: usize, l: usize, i: u8) -> Paged
+    ensures { result ≡ record { s = s; l = l; page = Page.Short; i = i } }
 {
-    Form::Defer { s, l, page, i }
+    Paged {
+        s,
+        l,
+        page: Page::Short,
+        i,
+    }
 }
 
+#[tactic(auto, unfolding(machine::specs::Shape::shape_of))]
 pub fn form_of(word: Word) -> Form
     requires { InRange word }
     ensures { (shape_is result ≡ shape_of word) × FormFits result }
 {
     match word {
-        Word::Move { s, rl, d } => return operation(0, s, rl, d),
-        Word::Add { s, rl, d } => return operation(1, s, rl, d),
-        Word::And { s, rl, d } => return operation(2, s, rl, d),
-        Word::Xor { s, rl, d } => return operation(3, s, rl, d),
-        Word::XecRegister { s, i } => return deferring(s, 0, LONG_PAGE, i),
-        Word::XecBank { s, l, i } => return deferring(s, l, SHORT_PAGE, i),
-        Word::NztRegister { s, i } => return branching(s, 0, LONG_PAGE, i),
-        Word::NztBank { s, l, i } => return branching(s, l, SHORT_PAGE, i),
-        Word::Call { i } => return Form::Call { i },
-        Word::Ret { i } => return Form::Return,
-        Word::XmitRegister { d, i } => return transmission(d, 0, i),
-        Word::XmitBank { d, l, i } => return transmission(d, l, i),
-        Word::Jmp { a } => return Form::Jump { a },
-        Word::Invalid => return Form::Invalid,
+        Word::Move { s, rl, d } => operation(Operation::Move, s, rl, d),
+        Word::Add { s, rl, d } => operation(Operation::Add, s, rl, d),
+        Word::And { s, rl, d } => operation(Operation::And, s, rl, d),
+        Word::Xor { s, rl, d } => operation(Operation::Xor, s, rl, d),
+        Word::XecRegister { s, i } => Form::Defer(of_register(s, i as u8)),
+        Word::XecBank { s, l, i } => Form::Defer(of_bank(s, l, i as u8)),
+        Word::NztRegister { s, i } => Form::Branch(of_register(s, i as u8)),
+        Word::NztBank { s, l, i } => Form::Branch(of_bank(s, l, i as u8)),
+        Word::Call { i } => Form::Call { i: i as u8 },
+        Word::Ret { i } => Form::Return,
+        Word::XmitRegister { d, i } => transmission(d, 0, i as u8),
+        Word::XmitBank { d, l, i } => transmission(d, l, i as u8),
+        Word::Jmp { a } => Form::Jump { a },
+        Word::Invalid => Form::Invalid,
     }
 }

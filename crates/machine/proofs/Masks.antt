@@ -9,10 +9,12 @@ use Rattle.choice.specs.Choice.{pick}
 use Rattle.choice.proofs.Laws.{pick_both, pick_beside}
 use Rattle.field.specs.Field.{rotate_right, low_bits, field_of}
 use Rattle.field.proofs.Laws.{low_low, low_of_all}
+use Rattle.machine.specs.declared.act.Argument.{Argument}
+use Rattle.machine.specs.declared.act.Argument.TheVariants.{Number, Constant}
 use Rattle.machine.specs.declared.act.Delivery.{Delivery}
 use Rattle.machine.specs.Shape.{Source, kept_of}
 use Rattle.machine.specs.Step.{value_of}
-use Rattle.machine.specs.Parts.{masked_into, taken_source, delivery_source}
+use Rattle.machine.specs.Parts.{masked_into, operation_number, argument_source, taken_argument, taken_source, delivery_source}
 
 -- into a register or a bus address: no mask
 pub unmasked : (op l d x : ℕ) → d < 16 → masked_into op l d x ≡ x
@@ -35,11 +37,16 @@ field_value op l d p y =
     Same : ℕ → Type 0
     Same x = x ≡ low_bits l (rotate_right (7 - p) y)
 
-pub taken_value : (a : Delivery) (v bus : List ℕ) → a.rl < 8
-    → masked_into a.op a.rl a.d (value_of (taken_source a) v bus) ≡ value_of (delivery_source a) v bus
-taken_value a v bus h =
-    pick_beside Masked (eqb a.kind 1) (λ _. refl)
-    (λ _. pick_beside Masked (leb 16 a.s) (λ _. field_value a.op a.rl a.d _ _) (λ _. kept_value a.op a.rl a.d _ h))
+pub taken_value : (a : Delivery) (v bus : List ℕ) → a.l < 8
+    → masked_into (operation_number a.op) a.l a.d (value_of (taken_source a) v bus) ≡ value_of (delivery_source a) v bus
+taken_value a v bus h = go a.from
   where
+    op : ℕ
+    op = operation_number a.op
+
     Masked : Source → Source → Type 0
-    Masked s t = masked_into a.op a.rl a.d (value_of s v bus) ≡ value_of t v bus
+    Masked s t = masked_into op a.l a.d (value_of s v bus) ≡ value_of t v bus
+
+    go : (from : Argument) → Masked (taken_argument from a.l a.d) (argument_source from op a.l a.d)
+    go (Number s) = pick_beside Masked (leb 16 s) (λ _. field_value op a.l a.d _ _) (λ _. kept_value op a.l a.d _ h)
+    go (Constant i) = refl

@@ -7,6 +7,10 @@ use Rattle.state.specs.declared.State.{State}
 use Rattle.state.specs.State.{stack_places}
 use Rattle.machine.specs.declared.Sequencer.{Sequencer}
 use Rattle.machine.specs.declared.Effect.{Effect}
+use Rattle.machine.specs.declared.act.Operation.{Operation}
+use Rattle.machine.specs.declared.act.Operation.TheVariants.{Move, Add, And, Xor}
+use Rattle.machine.specs.declared.act.Argument.{Argument}
+use Rattle.machine.specs.declared.act.Argument.TheVariants.{Number, Constant}
 use Rattle.machine.specs.declared.act.Delivery.{Delivery}
 use Rattle.machine.specs.Shape.{Source, constant, Target, Shape, act, source_of, target_of, places_of, kept_of}
 use Rattle.machine.specs.Step.{Outcome, result_of, act_state, target_event, may_write, may_choose, came_to_stop}
@@ -104,27 +108,37 @@ delivered map op x target s =
     (record { state = act_state op x target s; event = target_event target (act_state op x target s) })
     (came_to_stop s)
 
--- An act as the code holds it: of kind 0 with a register or bank as its source, of kind 1 with XMIT's constant.
-abbrev pub delivery_of : ℕ → ℕ → ℕ → ℕ → ℕ → ℕ → Delivery
-delivery_of kind op s rl d i = record { kind = kind; op = op; s = s; rl = rl; d = d; i = i }
+-- an operation's opcode
+abbrev pub operation_number : Operation → ℕ
+operation_number Move = 0
+operation_number Add = 1
+operation_number And = 2
+operation_number Xor = 3
 
-abbrev pub operation_of : ℕ → ℕ → ℕ → ℕ → Delivery
-operation_of op s rl d = delivery_of 0 op s rl d 0
+-- An act as the code holds it: of MOVE, ADD, AND, XOR, with a register or bank as its source; of XMIT, with its constant.
+abbrev pub operation_of : Operation → ℕ → ℕ → ℕ → Delivery
+operation_of op s rl d = record { op = op; from = Number s; l = rl; d = d }
 
 abbrev pub transmission_of : ℕ → ℕ → ℕ → Delivery
-transmission_of d l i = delivery_of 1 0 0 l d i
+transmission_of d l i = record { op = Move; from = Constant i; l = l; d = d }
 
--- its source, and its source before ADD's mask
+-- the source of an act with length l and target d, and its source before ADD's mask
+abbrev pub argument_source : Argument → ℕ → ℕ → ℕ → Source
+argument_source (Number s) op l d = source_of s (places_of l d) (kept_of op l d) l
+argument_source (Constant i) op l d = constant (masked_into op l d i)
+
+abbrev pub taken_argument : Argument → ℕ → ℕ → Source
+taken_argument (Number s) l d = source_of s (places_of l d) 0 l
+taken_argument (Constant i) l d = constant i
+
 abbrev pub delivery_source : Delivery → Source
-delivery_source a =
-    pick (eqb a.kind 1) (constant (masked_into a.op a.rl a.d a.i))
-    (source_of a.s (places_of a.rl a.d) (kept_of a.op a.rl a.d) a.rl)
+delivery_source a = argument_source a.from (operation_number a.op) a.l a.d
 
 abbrev pub taken_source : Delivery → Source
-taken_source a = pick (eqb a.kind 1) (constant a.i) (source_of a.s (places_of a.rl a.d) 0 a.rl)
+taken_source a = taken_argument a.from a.l a.d
 
 abbrev pub shape_of_delivery : Delivery → Shape
-shape_of_delivery a = act (delivery_source a) a.op (target_of a.d a.rl)
+shape_of_delivery a = act (delivery_source a) (operation_number a.op) (target_of a.d a.l)
 
 -- What a word needs to be executed: a map of its length, a PC inside an image of at most 8,192 words, a depth
 -- within the stack.

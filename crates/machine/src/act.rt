@@ -1,35 +1,47 @@
 // What the words that deliver read of their source, and what they make of it: MOVE, ADD, AND, XOR, XMIT.
-ghost use Rattle.std.specs.Prelude.{◌≡◌, [], ◌∷◌, ℕ, ◌<◌, length, get_or};
+ghost use Rattle.std.specs.Prelude.{◌≡◌, ℕ, ◌<◌, length};
 ghost use Rattle.map.specs.Map.{map_length};
 ghost use Rattle.machine.specs.Shape.{slot_of, source_of, places_of};
 ghost use Rattle.machine.specs.Step.{value_of, result_of, may_read};
-ghost use Rattle.machine.specs.Parts.{masked_into};
+ghost use Rattle.machine.specs.Parts.{operation_number, masked_into};
+
+// MOVE, ADD, AND, XOR. XMIT moves its constant.
+#[derive(Clone, Copy, PartialEq, Eq)]
+pub enum Operation {
+    Move,
+    Add,
+    And,
+    Xor,
+}
+
+// What a delivering word reads: the register or bank of a number, or XMIT's constant.
+#[derive(Clone, Copy)]
+pub enum Argument {
+    Number(usize),
+    Constant(u8),
+}
+
+// A word that delivers a source to a target. l is the rotation of a register, or the length of a bank's field.
+#[derive(Clone, Copy)]
+pub struct Delivery {
+    pub op: Operation,
+    pub from: Argument,
+    pub l: usize,
+    pub d: usize,
+}
 
 // The slot of a register number among the eleven values.
+#[tactic(auto, unfolding(crate::specs::Shape::slot_of))]
 pub fn slot_of(r: usize) -> usize
     ensures { (result ≡ slot_of r) × (result < 11) }
 {
-    if r < 7 {
-        return r;
+    match r {
+        0..=6 => r,
+        9 => 7,
+        8 => state::OVERFLOW,
+        7 => state::ADDRESS,
+        _ => state::ADDRESS + 1,
     }
-    if r == 9 {
-        return 7;
-    }
-    if r == 8 {
-        return state::OVERFLOW;
-    }
-    if r == 7 {
-        return state::ADDRESS;
-    }
-    state::ADDRESS + 1
-}
-
-// A step's byte of a bank.
-fn bus_byte(left: u8, right: u8, bank: usize) -> u8
-    requires { bank < 2 }
-    ensures { result ≡ get_or (left ∷ right ∷ []) bank 0 }
-{
-    if bank == 0 { left } else { right }
 }
 
 // Where the source is a bank: is the bank's address readable?
@@ -41,49 +53,41 @@ pub fn may_read(map: &[u8], values: &[u8; 11], s: usize) -> bool
         return true;
     }
     let bank = s / 8 % 2;
-    map::readable(map, bank, crate::wide(values[state::ADDRESS + bank]))
+    map::readable(map, bank, usize::from(values[state::ADDRESS + bank]))
 }
 
 // The source: a register rotated by places, or a bank's field of length l.
-pub fn operand(values: &[u8; 11], left: u8, right: u8, s: usize, places: usize, l: usize) -> u8
+pub fn operand(values: &[u8; 11], bus: [u8; 2], s: usize, places: usize, l: usize) -> u8
     requires { (places < 8) × (l < 8) }
-    ensures { result ≡ value_of (source_of s places 0 l) values.now (left ∷ right ∷ []) }
+    ensures { result ≡ value_of (source_of s places 0 l) values.now bus }
 {
     if s < word::FIRST_BANK {
-        let k = slot_of(s);
-        return field::rotate(values[k], places);
+        return field::rotate(values[slot_of(s)], places);
     }
-    field::field(bus_byte(left, right, s / 8 % 2), s % 8, l)
+    field::field(bus[s / 8 % 2], s % 8, l)
 }
 
 // The source, or AUX with the source added, ANDed or XORed.
-pub fn result(op: usize, aux: u8, x: u8) -> u8
-    ensures { result ≡ result_of op aux x }
+#[tactic(auto, unfolding(crate::specs::Step::result_of))]
+pub fn result(op: Operation, aux: u8, x: u8) -> u8
+    ensures { result ≡ result_of (operation_number op) aux x }
 {
-    if op == 0 {
-        return x;
+    match op {
+        Operation::Move => x,
+        Operation::Add => field::sum(aux, x),
+        Operation::And => field::and(aux, x),
+        Operation::Xor => field::xor(aux, x),
     }
-    if op == 1 {
-        return field::sum(aux, x);
-    }
-    if op == 2 {
-        return field::and(aux, x);
-    }
-    field::xor(aux, x)
 }
 
 // What an operation takes of its source: ADD to a bank the low bits. A bank's field has no others.
-pub fn masked(op: usize, x: u8, l: usize, d: usize) -> u8
+pub fn masked(op: Operation, x: u8, l: usize, d: usize) -> u8
     requires { l < 8 }
-    ensures { result ≡ masked_into op l d x }
+    ensures { result ≡ masked_into (operation_number op) l d x }
 {
-    if op != 1 {
-        return x;
-    }
-    if d < word::FIRST_BANK {
-        x
-    } else {
-        field::low(x, l)
+    match op {
+        Operation::Add if word::FIRST_BANK <= d => field::low(x, l),
+        _ => x,
     }
 }
 
@@ -93,15 +97,4 @@ pub fn places(rl: usize, d: usize) -> usize
     ensures { (result ≡ places_of rl d) × (result < 8) }
 {
     if d < word::FIRST_BANK { rl } else { 0 }
-}
-
-// A word that delivers a source to a target: where kind is 0 the source s, where it is 1 the constant i.
-#[derive(Clone, Copy)]
-pub struct Delivery {
-    pub kind: usize,
-    pub op: usize,
-    pub s: usize,
-    pub rl: usize,
-    pub d: usize,
-    pub i: usize,
 }

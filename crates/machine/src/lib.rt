@@ -4,7 +4,7 @@
 
 pub mod act;
 
-ghost use Rattle.std.specs.Prelude.{◌≡◌, ℕ, ◌<◌, List};
+ghost use Rattle.std.specs.Prelude.{◌≡◌, ℕ, List};
 ghost use Rattle.machine.specs.Step.{came_to_stop};
 ghost use Rattle.machine.specs.Parts.{whole, outcome};
 
@@ -44,11 +44,4 @@ pub fn stop(q: Sequencer, number: usize) -> Effect
         written: 0,
         stop: number,
     }
-}
-
-// A byte as a usize.
-pub fn wide(x: u8) -> usize
-    ensures { (result ≡ x) × (result < 256) }
-{
-    x as usize
 }

@@ -1,18 +1,16 @@
 -- What is fetched as the code holds it, and what a step needs.
-use Rattle.std.specs.Prelude.{List, ◌≡◌, ◌<◌, ◌≤◌, ℕ, length}
+use Rattle.std.specs.Prelude.{List, ◌≡◌, ◌<◌, ◌≤◌, ℕ, length, Option, Some, None}
 use Rattle.word.specs.declared.Word.{Word}
-use Rattle.word.specs.declared.Word.TheVariants.{Invalid as Unlisted}
+use Rattle.word.specs.declared.Word.TheVariants.{Invalid}
 use Rattle.map.specs.Map.{map_length}
 use Rattle.state.specs.State.{stack_places}
 use Rattle.machine.specs.declared.Sequencer.{Sequencer}
 use Rattle.machine.specs.Step.{word_count}
-use Rattle.processor.specs.declared.Fetched.{Fetched}
-use Rattle.processor.specs.declared.Fetched.TheVariants.{Valid, Invalid as Nothing}
 
 -- What is fetched: the decoded word, or none exactly where it is invalid.
-abbrev pub Fetches : Word → Fetched → Type 0
-Fetches word (Valid w) = (word ≡ w) × (word ≡ Unlisted → ⊥)
-Fetches word Nothing = word ≡ Unlisted
+abbrev pub Fetches : Word → Option Word → Type 0
+Fetches word (Some w) = (word ≡ w) × (word ≡ Invalid → ⊥)
+Fetches word None = word ≡ Invalid
 
 -- What a step needs: at most 8,192 words, a map of its length, and of a well-formed state that PC is near while an
 -- XEC is pending, and that the depth is within the stack.

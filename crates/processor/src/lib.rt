@@ -1,7 +1,7 @@
 // The processor: the word at an address and its form, and one step over a fetched word.
 #![tactic(auto)]
 
-ghost use Rattle.std.specs.Prelude.{◌≡◌, ◌<◌, [], ◌∷◌};
+ghost use Rattle.std.specs.Prelude.{◌≡◌, ◌<◌};
 ghost use Rattle.word.specs.Word.{InRange, decoded};
 ghost use Rattle.machine.specs.Step.{word_count, word_at, shape_at, word_step, step_from, stepped};
 ghost use Rattle.machine.specs.Parts.{whole, fetch_of, outcome, Ready};
@@ -13,31 +13,27 @@ use machine::{Effect, Sequencer};
 use word::Word;
 
 // Executes a word at the sequencer's PC.
+#[tactic(auto, unfolding(machine::specs::Step::go_state))]
 fn execute(
     form: Form,
     map: &[u8],
-    left: u8,
-    right: u8,
+    bus: [u8; 2],
     q: Sequencer,
     values: &mut [u8; 11],
     latches: &mut [u8; 2],
     returns: &mut [u16; 8],
 ) -> Effect
     requires { Ready map.now q × FormFits form }
-    ensures { outcome result values.new latches.new returns.new ≡ word_step map.now (shape_is form) (left ∷ right ∷ []) (whole q values.old latches.old returns.old) }
+    ensures { outcome result values.new latches.new returns.new ≡ word_step map.now (shape_is form) bus (whole q values.old latches.old returns.old) }
 {
     match form {
-        Form::Act(a) => return delivery::act(map, left, right, a, q, values, latches),
-        Form::Jump { a } => return control::go_to(a, q.depth),
-        Form::Branch { s, l, page, i } => {
-            return control::nzt(map, left, right, s, l, page, i, q, values);
-        }
-        Form::Defer { s, l, page, i } => {
-            return control::xec(map, left, right, s, l, page, i, q, values);
-        }
-        Form::Call { i } => return control::call(i, q, values, returns),
-        Form::Return => return control::ret(q, returns),
-        Form::Invalid => return machine::stop(q, 22),
+        Form::Act(a) => delivery::act(map, bus, a, q, values, latches),
+        Form::Jump { a } => control::go_to(a, q.depth),
+        Form::Branch(w) => control::nzt(map, bus, w, q, values),
+        Form::Defer(w) => control::xec(map, bus, w, q, values),
+        Form::Call { i } => control::call(i, q, values, returns),
+        Form::Return => control::ret(q, returns),
+        Form::Invalid => machine::stop(q, 22),
     }
 }
 
@@ -58,27 +54,20 @@ pub fn form_at(image: &[u8], at: usize) -> Form
 }
 
 // A decoded word that is valid, or none.
-#[derive(Clone, Copy)]
-pub enum Fetched {
-    Valid(Word),
-    Invalid,
-}
-
-pub fn fetched_of(word: Word) -> Fetched
+pub fn fetched_of(word: Word) -> Option<Word>
     ensures { Fetches word result }
 {
-    if let Word::Invalid = word {
-        return Fetched::Invalid;
+    match word {
+        Word::Invalid => None,
+        _ => Some(word),
     }
-    Fetched::Valid(word)
 }
 
 // Where the next word is fetched.
 pub fn fetch_address(q: Sequencer) -> usize
     ensures { result ≡ fetch_of q }
 {
-    let flag = q.flag;
-    if flag == 1 { q.pending } else { q.pc }
+    if q.flag == 1 { q.pending } else { q.pc }
 }
 
 // One step of a machine that is not stopped. The word is decoded here and not by word_at, so that the decoder becomes part
@@ -86,32 +75,22 @@ pub fn fetch_address(q: Sequencer) -> usize
 pub fn step(
     image: &[u8],
     map: &[u8],
-    left: u8,
-    right: u8,
+    bus: [u8; 2],
     q: Sequencer,
     values: &mut [u8; 11],
     latches: &mut [u8; 2],
     returns: &mut [u16; 8],
 ) -> Effect
     requires { Runs image.now map.now q }
-    ensures { step_from (whole q values.old latches.old returns.old) (outcome result values.new latches.new returns.new) ≡ stepped image.now map.now (left ∷ right ∷ []) (whole q values.old latches.old returns.old) }
+    ensures { step_from (whole q values.old latches.old returns.old) (outcome result values.new latches.new returns.new) ≡ stepped image.now map.now bus (whole q values.old latches.old returns.old) }
 {
     let at = fetch_address(q);
     if image.len() / 2 <= at {
         return machine::stop(q, 21);
     }
     let decoded = word::decode_bytes(image[2 * at], image[2 * at + 1]);
-    let Fetched::Valid(word) = fetched_of(decoded) else {
+    let Some(word) = fetched_of(decoded) else {
         return machine::stop(q, 22);
     };
-    execute(
-        forms::form_of(word),
-        map,
-        left,
-        right,
-        q,
-        values,
-        latches,
-        returns,
-    )
+    execute(forms::form_of(word), map, bus, q, values, latches, returns)
 }

@@ -11,4 +11,4 @@ returns-then-depth-eq0 c = λ map bus v l.
 pub returns : goal.returns
 returns c = λ map bus v l.
     let a = c.args in
-    returned map bus a.q v l a.returns.now c.go_to.result (omega arith) (c.go_to.ensures ∙ rw c.wide_number-pc.ensures)
+    returned map bus a.q v l a.returns.now c.go_to.result (omega arith) (c.go_to.ensures ∙ rw c.from-pc.ensures)
