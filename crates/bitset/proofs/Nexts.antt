@@ -1,15 +1,14 @@
 -- The next number of a set, word by word. Assumes nothing.
-use mathlib.Core.Path.{◌≡◌, sym, ap, ap₂, ◌∙◌, subst}
-use mathlib.Core.Bool.{Bool, true, false}
+use mathlib.Core.Path.{◌≡◌, ap, ap₂, ◌∙◌, subst}
+use mathlib.Core.Bool.{Bool, false}
 use mathlib.Core.List.{List}
-use Prim.Native.Nat.{ℕ, ◌+◌, ◌-◌, ◌*◌, ◌/◌, ◌%◌, ◌≤◌, ◌<◌}
+use Prim.Native.Nat.{ℕ, ◌+◌, ◌-◌, ◌*◌, ◌/◌, ◌%◌, ◌^◌, ◌≤◌, ◌<◌, min}
 use native.Mathlib.Decide.{dec_lt}
-use native.Mathlib.Nat.{div-one}
 use native.Mathlib.Omega.{arith}
 use lib.ListN.{get_or}
 use Rattle.bitset.specs.Bitset.{has, Next}
-use Rattle.bitset.specs.Words.{bit, Lowest, Clear, Least}
-use Rattle.bitset.proofs.Sets.{zero_bit}
+use Rattle.bitset.specs.Words.{bit, Lowest, Clear}
+use Rattle.bitset.proofs.Lows.{none_above}
 
 -- number 64 a + k is bit k of word a
 pub has_at : (l : List ℕ) (a k : ℕ) → k < 64 → has l (a * 64 + k) ≡ bit (get_or l a 0) k
@@ -41,17 +40,18 @@ module _ (l : List ℕ) where
       by j low high (yes h) = p.none j low h
       by j low high (no h) = q.none j (omega arith) high
 
-  -- a word of zeros
-  pub zeros_clear : (a : ℕ) → get_or l a 0 ≡ 0 → Clear l (a * 64) ((a + 1) * 64)
-  zeros_clear a e =
+  -- a word that has nothing from place k on
+  pub clear_rest : (a k : ℕ) → get_or l a 0 / 2 ^ k ≡ 0 → Clear l (a * 64 + k) ((a + 1) * 64)
+  clear_rest a k e =
       record {
         none =
             λ j low high.
-            at_word a j low (omega arith) (ap (λ (w : ℕ). bit w (j - a * 64)) e ∙ zero_bit (j - a * 64));
+            at_word a j (omega arith) (omega arith) (none_above (get_or l a 0) k e (j - a * 64) (omega arith));
       }
 
-  pub clear_word : {from : ℕ} (a : ℕ) → Clear l from (a * 64) → get_or l a 0 ≡ 0 → Clear l from ((a + 1) * 64)
-  clear_word a c e = clear_join c (zeros_clear a e)
+  -- a word that has nothing
+  pub clear_word : {from : ℕ} (a : ℕ) → Clear l from (a * 64) → get_or l a 0 / 2 ^ 0 ≡ 0 → Clear l from ((a + 1) * 64)
+  clear_word a c e = clear_join c (start_at (omega arith) (clear_rest a 0 e))
 
   -- from place k of a word up to its lowest one there
   clear_below : (a : ℕ) {k r : ℕ} → Lowest (get_or l a 0) k r → Clear l (a * 64 + k) (a * 64 + r)
@@ -68,33 +68,18 @@ module _ (l : List ℕ) where
       record { low = low; high = omega arith; none = λ j g m. c.none j g (omega arith); found = λ h. absurd (omega arith) }
 
   -- the word's lowest one, or the end before it
-  pub next_some : (a : ℕ) {from end k m r : ℕ} → Clear l from (a * 64 + k) → Lowest (get_or l a 0) k m → m < 64
-      → from ≤ a * 64 + k → from ≤ end → Least (a * 64 + m) end r → Next l from end r
-  next_some a {from} {end} {k} {m} {r} c h inside begin wide s =
-      record { low = by (dec_lt r end); high = s.right; none = λ j g n. all.none j g (omega (arith, s.left)); found = found }
-    where
-      all : Clear l from (a * 64 + m)
-      all = clear_join c (clear_below a h)
-
-      by : Dec (r < end) → from ≤ r
-      by (yes g) = omega (arith, s.which g, h.low)
-      by (no g) = omega (arith, s.right)
-
-      found : r < end → has l r ≡ true
-      found g = ap (has l) (s.which g) ∙ has_at l a m inside ∙ h.found inside
-
-  -- the rest of a number's word is clear
-  pub rest_clear : (from : ℕ) {m : ℕ} → Lowest (get_or l (from / 64) 0) (from % 64) m → 64 ≤ m
-      → Clear l from (from / 64 * 64 + 64)
-  rest_clear from {m} h none =
+  pub next_some : (a : ℕ) {from end k m : ℕ} → Clear l from (a * 64 + k) → Lowest (get_or l a 0) k m → from ≤ a * 64 + k
+      → from ≤ end → Next l from end (min (a * 64 + m) end)
+  next_some a {from} {end} {k} {m} c h begin wide =
       record {
-        none = λ j low high. (clear_below (from / 64) h).none j (omega arith) (omega arith);
+        low = omega (arith, h.low);
+        high = omega arith;
+        none = λ j g n. (clear_join c (clear_below a h)).none j g (omega arith);
+        found =
+            λ g.
+            ap (has l) {x = min (a * 64 + m) end} {y = a * 64 + m} (omega arith) ∙ has_at l a m h.high ∙ h.found;
       }
 
-  -- a word that is not zero has a one
-  pub some_one : (a : ℕ) {m : ℕ} → (get_or l a 0 ≡ 0 → ⊥) → Lowest (get_or l a 0) 0 m → m < 64
-  some_one a {m} some h = by (dec_lt m 64)
-    where
-      by : Dec (m < 64) → m < 64
-      by (yes g) = g
-      by (no g) = let e : m ≡ 64 = omega (arith, h.high) in absurd (some (sym (div-one (get_or l a 0)) ∙ h.empty e))
+  -- the rest of a number's word is clear
+  pub rest_clear : (from : ℕ) → get_or l (from / 64) 0 / 2 ^ (from % 64) ≡ 0 → Clear l from (from / 64 * 64 + 64)
+  rest_clear from e = end_at (omega arith) (start_at (omega arith) (clear_rest (from / 64) (from % 64) e))

@@ -2,7 +2,7 @@
 use mathlib.Core.Path.{◌≡◌, refl, sym, ap, ap₂, ◌∙◌}
 use mathlib.Core.Bool.{Bool, true, false, ◌&&◌, ◌||◌, not, or-false, true≢false, false≢true}
 use mathlib.Core.List.{List, [], ◌∷◌, ◌++◌}
-use Prim.Native.Nat.{ℕ, suc, ◌+◌, ◌-◌, ◌*◌, ◌/◌, ◌%◌, ◌^◌, ◌≤◌, ◌<◌}
+use Prim.Native.Nat.{ℕ, zero, suc, ◌+◌, ◌*◌, ◌/◌, ◌%◌, ◌^◌, ◌≤◌, ◌<◌}
 use native.Mathlib.Nat.{mod-eq_of_lt}
 use native.Mathlib.Omega.{arith}
 use lib.Dec.{ltb}
@@ -13,10 +13,13 @@ use Rattle.field.specs.Field.{width_of}
 use Rattle.machine.specs.Shape.{Source, register, slot_of, source_of, defer, Shape, go}
 use Rattle.machine.specs.Step.{word_count, shape_at, in_page}
 use Rattle.facts.specs.Facts.{unknown, source_fact, Span, span_of}
-use Rattle.transfer.specs.Passes.{over, gives, page_address, can_be_executed, is_call, is_return, some, words_at}
+use Rattle.transfer.specs.Passes.{over, gives, page_address, can_be_executed, is_defer, some, words_at}
 use Rattle.callers.specs.declared.Values.{Values}
-use Rattle.callers.specs.Callers.{span_is}
-use Rattle.callers.proofs.Words.{asked_is_no_xec}
+use Rattle.callers.specs.Callers.{span_is, asks}
+use Rattle.callers.specs.declared.Asked.{Asked}
+use Rattle.callers.specs.declared.Asked.TheVariants.{Call, Return}
+use Rattle.std.specs.List.{list_any, range_with_len}
+use Rattle.callers.proofs.Words.{no_xec}
 
 -- ---- values of a source
 
@@ -51,11 +54,6 @@ field_values facts s l h n short =
 
 -- ---- places of a page
 
-pub gives_told : (page i : ℕ) (v : Values) (k : ℕ) {m n : ℕ} → m ≡ (i + v.low) % page → n ≡ (k + (page - m)) % page
-    → ltb n v.count ≡ gives page i (span_is v) k
-unfolding gives
-gives_told page i v k p q = ap (λ x. ltb x v.count) (q ∙ ap (λ x. (k + (page - x)) % page) p)
-
 -- place k of the page, kept to the page
 pub in_page_lem : (page pc k : ℕ) → k < page → in_page page pc k ≡ page_address page pc k
 in_page_lem page pc k h = ap (λ n. pc / page * page + n) (mod-eq_of_lt h)
@@ -79,26 +77,19 @@ unfolding some
 some_one test true w = or-false (test w)
 some_one test false w = refl
 
-pub executed_next : (test : Shape → Bool) (image : List ℕ) (pc page i : ℕ) (span : Span) (k : ℕ) → k < page
-    → some test (executed_from image pc page i span k (page - k))
-    ≡ ((gives page i span k && can_be_executed image (page_address page pc k)) && test (shape_at image (page_address page pc k)))
-    || some test (executed_from image pc page i span (k + 1) (page - (k + 1)))
-unfolding over
-executed_next test image pc page i span k h =
-    let more : page - k ≡ suc (page - (k + 1)) = omega arith in
-    let next : suc k ≡ k + 1 = omega arith in
+-- an XEC executes such a word where it does at one of the places
+pub each_place : (test : Shape → Bool) (image : List ℕ) (pc page i : ℕ) (span : Span) (k n : ℕ)
+    → list_any (λ j. (gives page i span j && can_be_executed image (page_address page pc j)) && test (shape_at image (page_address page pc j))) (range_with_len k n)
+    ≡ some test (executed_from image pc page i span k n)
+unfolding over some
+each_place test image pc page i span k zero = refl
+each_place test image pc page i span k (suc n) =
     let b = gives page i span k && can_be_executed image (page_address page pc k) in
     let w = shape_at image (page_address page pc k) in
-    ap (λ n. some test (executed_from image pc page i span k n)) more
-    ∙ some_append test (pick b (w ∷ []) []) (executed_from image pc page i span (suc k) (page - (k + 1)))
-    ∙ ap₂ (λ c j. c || some test (executed_from image pc page i span j (page - (k + 1)))) (some_one test b w) next
-
-pub executed_none : (test : Shape → Bool) (image : List ℕ) (pc page i : ℕ) (span : Span) (k : ℕ) → page ≤ k
-    → some test (executed_from image pc page i span k (page - k)) ≡ false
-unfolding over some
-executed_none test image pc page i span k h =
-    let none : page - k ≡ 0 = omega arith in
-    ap (λ n. some test (executed_from image pc page i span k n)) none
+    ap₂ (λ (c d : Bool). c || d) (sym (some_one test b w))
+    (ap (λ (j : ℕ). list_any (λ j. (gives page i span j && can_be_executed image (page_address page pc j)) && test (shape_at image (page_address page pc j))) (range_with_len j n)) {x = k + 1} {y = suc k} (omega arith)
+    ∙ each_place test image pc page i span (suc k) n)
+    ∙ sym (some_append test (pick b (w ∷ []) []) (executed_from image pc page i span (suc k) n))
 
 pub executed_all : (image : List ℕ) (pc page i : ℕ) (facts : List ℕ) (source : Source)
     → words_at image pc facts (go source (defer page i)) ≡ executed_from image pc page i (span_of source facts) 0 page
@@ -107,10 +98,15 @@ executed_all image pc page i facts source = refl
 
 -- ---- one place
 
-module _ (image : List ℕ) (pc page i : ℕ) (v : Values) (k : ℕ) (returns : Bool) where
+-- an XEC is neither
+pub asked_is_no_xec : (asked : Asked) (s : Shape) → not (is_defer s) && asks asked s ≡ asks asked s
+asked_is_no_xec Call s = no_xec true false s
+asked_is_no_xec Return s = no_xec false true s
+
+module _ (image : List ℕ) (pc page i : ℕ) (v : Values) (k : ℕ) (asked : Asked) where
   abbrev performed : Bool
   performed =
-      (gives page i (span_is v) k && can_be_executed image (page_address page pc k)) && pick returns is_return is_call (shape_at image (page_address page pc k))
+      (gives page i (span_is v) k && can_be_executed image (page_address page pc k)) && asks asked (shape_at image (page_address page pc k))
 
   pub not_given : (b : Bool) → b ≡ gives page i (span_is v) k → not b ≡ true → false ≡ performed
   not_given true e h = absurd (false≢true h)
@@ -120,48 +116,18 @@ module _ (image : List ℕ) (pc page i : ℕ) (v : Values) (k : ℕ) (returns : 
   not_inside short e h =
       let at = e ∙ in_page_lem page pc k short in
       let out : ltb (page_address page pc k) (word_count image) ≡ false = rw (← at) (le-ltb _ (word_count image) h) in
-      rw out (nothing (gives page i (span_is v) k) (pick returns is_return is_call (shape_at image (page_address page pc k))))
+      rw out (nothing (gives page i (span_is v) k) (asks asked (shape_at image (page_address page pc k))))
     where
       nothing : (b c : Bool) → false ≡ (b && false) && c
       nothing true c = refl
       nothing false c = refl
 
   pub is_executed : k < page → (b : Bool) → b ≡ gives page i (span_is v) k → not b ≡ false → {a : ℕ} → a ≡ in_page page pc k → a < word_count image
-      → {s : Shape} → s ≡ shape_at image a → {r : Bool} → r ≡ pick returns is_return is_call s → r ≡ performed
+      → {s : Shape} → s ≡ shape_at image a → {r : Bool} → r ≡ asks asked s → r ≡ performed
   is_executed short false given n {a} e h {s} read {r} told = absurd (true≢false n)
   is_executed short true given n {a} e h {s} read {r} told =
       let at : a ≡ page_address page pc k = e ∙ in_page_lem page pc k short in
       let shape : s ≡ shape_at image (page_address page pc k) = read ∙ ap (λ x. shape_at image x) at in
       let inside : ltb (page_address page pc k) (word_count image) ≡ true = rw (← at) (lt-ltb a (word_count image) h) in
-      told ∙ ap (pick returns is_return is_call) shape ∙ sym (asked_is_no_xec returns (shape_at image (page_address page pc k)))
+      told ∙ ap (asks asked) shape ∙ sym (asked_is_no_xec asked (shape_at image (page_address page pc k)))
       ∙ (rw (← given, inside) refl)
-
--- ---- the loop over a page's places: what is still to be asked decides
-
-module _ (test : Shape → Bool) (image : List ℕ) (pc page i : ℕ) where
-  abbrev asking : Span → ℕ → ℕ → Bool
-  asking span k n = some test (executed_from image pc page i span k n)
-
-  abbrev performed_at : Span → ℕ → Bool
-  performed_at span k = (gives page i span k && can_be_executed image (page_address page pc k)) && test (shape_at image (page_address page pc k))
-
-  pub performs_begins : (span : Span) → asking span 0 (page - 0) ≡ asking span 0 page
-  performs_begins span = ap (asking span 0) {x = page - 0} {y = page} (omega arith)
-
-  pub performs_next : (span : Span) (k : ℕ) → k < page → asking span k (page - k) ≡ asking span 0 page
-      → (b : Bool) → b ≡ performed_at span k → b ≡ false → asking span (k + 1) (page - (k + 1)) ≡ asking span 0 page
-  performs_next span k h e b told n =
-      ap (λ c. c || asking span (k + 1) (page - (k + 1))) (sym n ∙ told) ∙ sym (executed_next test image pc page i span k h) ∙ e
-
-  module _ (facts : List ℕ) (source : Source) (span : Span) (values : span ≡ span_of source facts) where
-    all : asking span 0 page ≡ some test (words_at image pc facts (go source (defer page i)))
-    all = ap (λ v. asking v 0 page) values ∙ ap (some test) (sym (executed_all image pc page i facts source))
-
-    pub performs_found : (k : ℕ) → k < page → asking span k (page - k) ≡ asking span 0 page
-        → (b : Bool) → b ≡ performed_at span k → b ≡ true → true ≡ some test (words_at image pc facts (go source (defer page i)))
-    performs_found k h e b told y =
-        ap (λ c. c || asking span (k + 1) (page - (k + 1))) (sym y ∙ told) ∙ sym (executed_next test image pc page i span k h) ∙ e ∙ all
-
-    pub performs_none : (k : ℕ) → page ≤ k → asking span k (page - k) ≡ asking span 0 page
-        → false ≡ some test (words_at image pc facts (go source (defer page i)))
-    performs_none k h e = sym (executed_none test image pc page i span k h) ∙ e ∙ all

@@ -1,12 +1,21 @@
 -- What the code asks of an image, of an XEC and of a lent table, and the values of a source as the code holds them.
-use Rattle.std.specs.Prelude.{◌≡◌, List, ℕ, ◌*◌, ◌≤◌, ◌<◌, length}
+use Rattle.std.specs.Prelude.{◌≡◌, Bool, List, ℕ, ◌*◌, ◌≤◌, ◌<◌, length}
 use Rattle.machine.specs.Step.{word_count}
 use Rattle.facts.specs.Facts.{Span}
 use Rattle.facts.specs.Record.{record_size, depths, cell_at, FineCell}
+use Rattle.machine.specs.Shape.{Shape}
+use Rattle.transfer.specs.Passes.{is_call, is_return}
 use Rattle.callers.specs.declared.Values.{Values}
+use Rattle.callers.specs.declared.Asked.{Asked}
+use Rattle.callers.specs.declared.Asked.TheVariants.{Call, Return}
 
 abbrev pub span_is : Values → Span
 span_is v = record { low = v.low; count = v.count }
+
+-- the question of a word's shape
+abbrev pub asks : Asked → Shape → Bool
+asks Call = is_call
+asks Return = is_return
 
 -- an address of an image of at most 8,192 words
 pub record InImage (image : List ℕ) (a : ℕ) : Type 0 where

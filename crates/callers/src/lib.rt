@@ -2,20 +2,19 @@
 #![tactic(auto)]
 
 ghost use Rattle.std.specs.Prelude.{◌&&◌, ◌≡◌, ◌+◌, ◌%◌, ◌≤◌, ◌<◌};
-ghost use Rattle.choice.specs.Choice.{pick};
-ghost use Rattle.machine.specs.Shape.{source_of, go, defer};
-ghost use Rattle.machine.specs.Parts.{IsPage};
+ghost use Rattle.machine.specs.Shape.{source_of};
+ghost use Rattle.control.specs.Pages.{page_size, defer_shape};
 ghost use Rattle.forms.specs.Forms.{shape_is, FormFits};
 ghost use Rattle.machine.specs.Step.{word_count, shape_at};
 ghost use Rattle.facts.specs.Facts.{span_of};
 ghost use Rattle.cells.specs.Cells.{Bounded};
 ghost use Rattle.transfer.specs.Passes.{gives, page_address, can_be_executed, is_call, is_return, some, words_at, is_call_site};
-ghost use Rattle.callers.specs.Callers.{span_is, InImage, Held};
+ghost use Rattle.callers.specs.Callers.{span_is, asks, InImage, Held};
 
-use control::{LONG_PAGE, SHORT_PAGE};
+use control::Paged;
 use forms::Form;
 
-// The values that a source may have: count of them from low on.
+// The values that a source may have: count of them from low on. A Range is not Copy, and these are used at each place of a page.
 #[derive(Clone, Copy)]
 pub struct Values {
     pub low: usize,
@@ -33,7 +32,7 @@ pub fn values_of(facts: [u16; 11], s: usize, l: usize) -> Values
             return Values { low: 0, count: 256 };
         }
         return Values {
-            low: f as usize,
+            low: usize::from(f),
             count: 1,
         };
     }
@@ -46,111 +45,77 @@ pub fn values_of(facts: [u16; 11], s: usize, l: usize) -> Values
     }
 }
 
-// x kept to a page.
-fn kept(page: usize, x: usize) -> usize
-    requires { IsPage page }
-    ensures { (result ≡ x % page) × (result < page) }
+// May an XEC whose source has the values v give the address at place k of its page?
+pub fn gives(w: Paged, v: Values, k: usize) -> bool
+    requires { (v.low + v.count ≤ 256) × (k < page_size w.page) }
+    ensures { result ≡ gives (page_size w.page) w.i (span_is v) k }
 {
-    if page == LONG_PAGE {
-        return x % LONG_PAGE;
-    }
-    x % SHORT_PAGE
-}
-
-// May an XEC with the constant i, whose source has the values v, give the address at place k of its page?
-pub fn gives(page: usize, i: usize, v: Values, k: usize) -> bool
-    requires { IsPage page × (i < 256) × (v.low + v.count ≤ 256) × (k < page) }
-    ensures { result ≡ gives page i (span_is v) k }
-{
-    let back = page - kept(page, i + v.low);
-    kept(page, k + back) < v.count
+    let size = w.page.size();
+    let back = size - (usize::from(w.i) + v.low) % size;
+    (k + back) % size < v.count
 }
 
 pub fn is_call(form: Form) -> bool
     ensures { result ≡ is_call (shape_is form) }
 {
-    if let Form::Call { i } = form {
-        return true;
-    }
-    false
+    matches!(form, Form::Call { .. })
 }
 
 pub fn is_return(form: Form) -> bool
     ensures { result ≡ is_return (shape_is form) }
 {
-    if let Form::Return = form {
-        return true;
-    }
-    false
+    matches!(form, Form::Return)
 }
 
-// Is the word a RET, or else a CALL?
-fn is_asked(form: Form, returns: bool) -> bool
-    ensures { result ≡ pick returns is_return is_call (shape_is form) }
-{
-    if returns {
-        return is_return(form);
-    }
-    is_call(form)
+// What is asked of a word: whether it is a CALL, or a RET.
+#[derive(Clone, Copy)]
+pub enum Asked {
+    Call,
+    Return,
 }
 
-// May an XEC at pc execute a RET, or else a CALL, at place k of its page?
-fn performs_at(
-    image: &[u8],
-    pc: usize,
-    page: usize,
-    i: usize,
-    v: Values,
-    k: usize,
-    returns: bool,
-) -> bool
-    requires { InImage image.now pc × IsPage page × (i < 256) × (v.low + v.count ≤ 256) × (k < page) }
-    ensures { result ≡ (gives page i (span_is v) k && can_be_executed image.now (page_address page pc k)) && pick returns is_return is_call (shape_at image.now (page_address page pc k)) }
+fn is_asked(form: Form, asked: Asked) -> bool
+    ensures { result ≡ asks asked (shape_is form) }
 {
-    if !gives(page, i, v, k) {
+    match asked {
+        Asked::Call => is_call(form),
+        Asked::Return => is_return(form),
+    }
+}
+
+// May an XEC at pc execute such a word at place k of its page?
+fn performs_at(image: &[u8], pc: usize, w: Paged, v: Values, k: usize, asked: Asked) -> bool
+    requires { InImage image.now pc × (v.low + v.count ≤ 256) × (k < page_size w.page) }
+    ensures { result ≡ (gives (page_size w.page) w.i (span_is v) k && can_be_executed image.now (page_address (page_size w.page) pc k)) && asks asked (shape_at image.now (page_address (page_size w.page) pc k)) }
+{
+    if !gives(w, v, k) {
         return false;
     }
-    let a = control::in_page(page, pc, k);
+    let a = control::in_page(w.page, pc, k);
     if image.len() / 2 <= a {
         return false;
     }
-    is_asked(processor::form_at(image, a), returns)
+    is_asked(processor::form_at(image, a), asked)
 }
 
 // The same at any place.
-fn xec_performs(
-    image: &[u8],
-    pc: usize,
-    facts: [u16; 11],
-    s: usize,
-    l: usize,
-    page: usize,
-    i: usize,
-    returns: bool,
-) -> bool
-    requires { InImage image.now pc × Bounded facts × (l < 8) × IsPage page × (i < 256) }
-    ensures { result ≡ some (pick returns is_return is_call) (words_at image.now pc facts (go (source_of s 0 0 l) (defer page i))) }
+fn xec_performs(image: &[u8], pc: usize, facts: [u16; 11], w: Paged, asked: Asked) -> bool
+    requires { InImage image.now pc × Bounded facts × (w.l < 8) }
+    ensures { result ≡ some (asks asked) (words_at image.now pc facts (defer_shape w)) }
 {
-    let v = values_of(facts, s, l);
-    let mut k = 0;
-    while k < page {
-        if performs_at(image, pc, page, i, v, k, returns) {
-            return true;
-        }
-        k += 1;
-    }
-    false
+    let v = values_of(facts, w.s, w.l);
+    (0..w.page.size()).any(|k| performs_at(image, pc, w, v, k, asked))
 }
 
-// May the cell at pc with these facts and its word execute a RET, or else a CALL?
-pub fn performs(image: &[u8], pc: usize, facts: [u16; 11], form: Form, returns: bool) -> bool
+// May the cell at pc with these facts and its word execute a CALL, or a RET?
+pub fn performs(image: &[u8], pc: usize, facts: [u16; 11], form: Form, asked: Asked) -> bool
     requires { InImage image.now pc × Bounded facts × FormFits form }
-    ensures { result ≡ some (pick returns is_return is_call) (words_at image.now pc facts (shape_is form)) }
+    ensures { result ≡ some (asks asked) (words_at image.now pc facts (shape_is form)) }
 {
-    if let Form::Defer { s, l, page, i } = form {
-        return xec_performs(image, pc, facts, s, l, page, i, returns);
+    match form {
+        Form::Defer(w) => xec_performs(image, pc, facts, w, asked),
+        _ => is_asked(form, asked),
     }
-    is_asked(form, returns)
 }
 
 // Is the cell at an address and depth reached, and may it execute a CALL? One that is not reached is told by one byte; what is
@@ -163,11 +128,8 @@ pub fn is_call_site(image: &[u8], table: &[u8], depth: usize, a: usize) -> bool
     if !cells::reached(table, at) {
         return false;
     }
-    let form = processor::form_at(image, a);
-    if let Form::Defer { s, l, page, i } = form {
-        let c = cells::load(table, at);
-        let facts = c.facts;
-        return xec_performs(image, a, facts, s, l, page, i, false);
+    match processor::form_at(image, a) {
+        Form::Defer(w) => xec_performs(image, a, cells::load(table, at).facts, w, Asked::Call),
+        form => is_call(form),
     }
-    is_call(form)
 }

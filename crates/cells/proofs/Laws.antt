@@ -1,20 +1,24 @@
 -- Laws of a record's bytes as the code reads and makes them, over plain numbers and lists.
-use mathlib.Core.Path.{◌≡◌, refl, sym, ◌∙◌, ap}
-use mathlib.Core.List.{List, [], ◌∷◌, ◌++◌, map}
+use mathlib.Core.Path.{◌≡◌, refl, sym, ◌∙◌, ap, ap₂}
+use mathlib.Core.List.{List, [], ◌∷◌, map}
 use Prim.Native.Nat.{ℕ, zero, suc, ◌+◌, ◌-◌, ◌*◌, ◌/◌, ◌%◌, ◌^◌, ◌≤◌, ◌<◌}
 use native.Mathlib.Omega.{arith}
-use native.Mathlib.Nat.{not-suc-le-zero, le_of_suc-le-suc}
+use native.Mathlib.Nat.{zero-mul, lt_of_lt_of_le, pow-suc, mul-suc, not-suc-le-zero, le_of_suc-le-suc}
 use lib.Dec.{eqb}
 use lib.ListN.{length, get_or, take, drop}
-use borrow.Author.Tests.{eq-eqb, ne_eqb}
 use borrow.Rule.Slice.PartMut.{put_mid, Post-is}
+use lib.Pow.{pow_mono, pow-lt}
+use lib.Seq.{drop-drop}
+use Rattle.std.proofs.lemmas.List.{length-take}
+use Rattle.std.specs.Int.{w16, to_le_bytes}
+use mathlib.Core.Bool.{Bool, true, false}
+use Rattle.std.specs.Int.{from_bool}
+use Rattle.choice.proofs.Laws.{pick_cases}
+use Rattle.std.specs.Simd.{first_chunks}
 use Rattle.choice.specs.Choice.{pick}
-use Rattle.state.specs.State.{bytes_from}
-use Rattle.state.proofs.RoundTrip.{whole}
-use Rattle.facts.specs.declared.Cell.{Cell}
-use Rattle.facts.specs.Facts.{fact_count, unknown}
-use Rattle.facts.specs.Record.{record_size, mask_of, value_byte, record_of, fact_at, read_cell, cell_at, put_record, FineCell}
-use Rattle.facts.proofs.Mask.{known_bit}
+use Rattle.facts.specs.Facts.{fact_count, unknown, is_known}
+use Rattle.facts.specs.Record.{record_size, mask_of, value_byte, fact_at, facts_from, read_cell, cell_at, put_record}
+use Rattle.facts.proofs.Mask.{known_bit, mask_lt}
 use Rattle.facts.proofs.Records.{part_at}
 use Rattle.cells.specs.Cells.{Bounded}
 
@@ -25,10 +29,21 @@ pub fact_eq : (b : List ℕ) (k : ℕ) {m r : ℕ} → m ≡ get_or b 2 0 + 256 
     → r ≡ pick (eqb (m / 2 ^ k % 2) 1) (get_or b (4 + k) 0) unknown → r ≡ fact_at b k
 fact_eq b k e h = h ∙ ap (λ (m : ℕ). pick (eqb (m / 2 ^ k % 2) 1) (get_or b (4 + k) 0) unknown) e
 
--- the part of 16 bytes from 16 × i on
-pub part_read : (t : List ℕ) (i : ℕ) → read_cell (take (record_size * i + record_size - record_size * i) (drop (record_size * i) t)) ≡ cell_at t i
-unfolding cell_at
-part_read t i = ap (λ (n : ℕ). read_cell (take n (drop (record_size * i) t))) {x = record_size * i + record_size - record_size * i} {y = record_size} (omega arith)
+pub facts_at : (b r : List ℕ) (k n : ℕ) → length r ≡ n → ((j : ℕ) → j < n → get_or r j 0 ≡ fact_at b (k + j)) → r ≡ facts_from b k n
+facts_at b [] k zero l h = refl
+facts_at b (x ∷ r) k zero l h = absurd (omega (arith, l))
+facts_at b [] k (suc n) l h = absurd (omega (arith, l))
+facts_at b (x ∷ r) k (suc n) l h =
+    ap₂ (λ (f : ℕ) (rest : List ℕ). f ∷ rest) (h 0 (omega arith) ∙ ap (fact_at b) {x = k + 0} {y = k} (omega arith))
+    (facts_at b r (suc k) n (omega (arith, l)) (λ j m. h (suc j) (omega arith) ∙ ap (fact_at b) {x = k + suc j} {y = suc k + j} (omega arith)))
+
+-- one of a table's chunks
+pub chunk_at : (n k : ℕ) (xs : List ℕ) (i : ℕ) (d : List ℕ) → i < k → get_or (first_chunks n k xs) i d ≡ take n (drop (n * i) xs)
+chunk_at n zero xs i d h = absurd (omega arith)
+chunk_at n (suc k) xs zero d h = ap (λ (j : ℕ). take n (drop j xs)) {x = 0} {y = n * 0} (omega arith)
+chunk_at n (suc k) xs (suc i) d h =
+    chunk_at n k (drop n xs) i d (omega arith) ∙ ap (take n) (drop-drop (n * i) n xs)
+    ∙ ap (λ (j : ℕ). take n (drop j xs)) {x = n + n * i} {y = n * suc i} (omega (arith, mul-suc n i))
 
 -- its first byte tells whether the cell is reached
 pub first_byte : (t : List ℕ) (i : ℕ) → eqb (get_or t (record_size * i) 0) 1 ≡ (cell_at t i).reached
@@ -48,27 +63,49 @@ get_d-inside (f ∷ fs) (suc k) d e h = get_d-inside fs k d e (le_of_suc-le-suc 
 pub fact_bound : (fs : List ℕ) → length fs ≡ fact_count → Bounded fs → (k : ℕ) → k < fact_count → get_or fs k 0 ≤ unknown
 fact_bound fs l bounded k h = rw (get_d-inside fs k 0 unknown (rw l h)) (bounded k)
 
-pub known_value : (f : ℕ) → f < 256 → f ≡ value_byte f
-known_value f h = rw (ne_eqb f unknown (λ e. omega arith))
+-- a fact's bit at its place
+doubled : (f k : ℕ) → known_bit f * 2 ^ suc k ≡ 2 * (known_bit f * 2 ^ k)
+doubled f k =
+    pick_cases (λ (x : ℕ). x * 2 ^ suc k ≡ 2 * (x * 2 ^ k)) (is_known f) (λ e. omega (arith, pow-suc 2 k))
+    (λ e. omega (arith, zero-mul (2 ^ suc k), zero-mul (2 ^ k)))
 
-pub no_value : (f : ℕ) → 256 ≤ f → f ≤ unknown → 0 ≡ value_byte f
-no_value f h k = rw (eq-eqb f unknown (omega arith))
-
--- the mask of eleven facts, from the last on
-pub mask_eq : (f : List ℕ) {m0 m1 m2 m3 m4 m5 m6 m7 m8 m9 m10 : ℕ} → length f ≡ fact_count
-    → m0 ≡ known_bit (get_or f 0 0) + 2 * m1 → m1 ≡ known_bit (get_or f 1 0) + 2 * m2 → m2 ≡ known_bit (get_or f 2 0) + 2 * m3
-    → m3 ≡ known_bit (get_or f 3 0) + 2 * m4 → m4 ≡ known_bit (get_or f 4 0) + 2 * m5 → m5 ≡ known_bit (get_or f 5 0) + 2 * m6
-    → m6 ≡ known_bit (get_or f 6 0) + 2 * m7 → m7 ≡ known_bit (get_or f 7 0) + 2 * m8 → m8 ≡ known_bit (get_or f 8 0) + 2 * m9
-    → m9 ≡ known_bit (get_or f 9 0) + 2 * m10 → m10 ≡ known_bit (get_or f 10 0) + 2 * 0 → m0 ≡ mask_of f
+-- the mask of the first facts, and of one more
+mask_more : (fs : List ℕ) (k : ℕ) → k < length fs → mask_of (take k fs) + known_bit (get_or fs k 0) * 2 ^ k ≡ mask_of (take (suc k) fs)
 unfolding mask_of
-mask_eq f l e0 e1 e2 e3 e4 e5 e6 e7 e8 e9 e10 = rw (e0, e1, e2, e3, e4, e5, e6, e7, e8, e9, e10) (ap mask_of (whole f fact_count l))
+mask_more [] k h = absurd (omega arith)
+mask_more (f ∷ fs) zero h = omega arith
+mask_more (f ∷ fs) (suc k) h = omega (arith, mask_more fs k (omega arith), doubled (get_or fs k 0) k)
 
-pub record_eq : (c : Cell) (finding : ℕ) {flag m : ℕ} {vs : List ℕ} → FineCell c → flag ≡ pick c.reached 1 0 → m ≡ mask_of c.facts
-    → vs ≡ map value_byte (bytes_from c.facts 0 fact_count) → flag ∷ finding ∷ m % 256 ∷ m / 256 ∷ (vs ++ (0 ∷ [])) ≡ record_of c finding
-unfolding record_of
-record_eq c finding {vs = vs} fine p q v =
-    let w : vs ≡ map value_byte c.facts = v ∙ ap (map value_byte) (whole c.facts fact_count fine.facts) in
-    rw (p, q, w)
+pub mask_fits : (fs : List ℕ) (k : ℕ) → length fs ≡ fact_count → mask_of (take k fs) < 2 ^ 16
+mask_fits fs k l = lt_of_lt_of_le (mask_lt (take k fs)) (pow_mono {j = 16} (omega (arith, length-take k fs, l)))
+
+pub bit_is : (b : Bool) → from_bool b ≡ pick b 1 0
+bit_is true = refl
+bit_is false = refl
+
+placed : (f k : ℕ) → k < fact_count → known_bit f * 2 ^ k % 65536 ≡ known_bit f * 2 ^ k
+placed f k h =
+    pick_cases (λ (x : ℕ). x * 2 ^ k % 65536 ≡ x * 2 ^ k) (is_known f)
+    (λ e. let less : 2 ^ k < 2 ^ 16 = pow-lt {i = k} {j = 16} (omega arith) in omega (arith, less)) (λ e. omega (arith, zero-mul (2 ^ k)))
+
+pub mask_step : (fs : List ℕ) (k : ℕ) {m x : ℕ} → length fs ≡ fact_count → k < fact_count → m ≡ mask_of (take k fs)
+    → x ≡ from_bool (is_known (get_or fs k 0)) → m + x * 2 ^ k % 65536 ≡ mask_of (take (k + 1) fs)
+mask_step fs k {m} {x} l h e b =
+    ap₂ (λ (p q : ℕ). p + q) e
+    (ap (λ (y : ℕ). y * 2 ^ k % 65536) (b ∙ bit_is (is_known (get_or fs k 0))) ∙ placed (get_or fs k 0) k h)
+    ∙ mask_more fs k (omega (arith, l)) ∙ ap (λ (n : ℕ). mask_of (take n fs)) {x = suc k} {y = k + 1} (omega arith)
+
+pub mask_bytes : (m : ℕ) → m < 2 ^ 16 → to_le_bytes w16 m ≡ m % 256 ∷ m / 256 ∷ []
+mask_bytes m h = ap (λ (n : ℕ). m % 256 ∷ n ∷ []) {x = m / 256 % 256} {y = m / 256} (omega arith)
+
+-- the values of a record
+pub values_at : (fs r : List ℕ) → length r ≡ length fs → ((k : ℕ) → k < length fs → get_or r k 0 ≡ value_byte (get_or fs k 0))
+    → r ≡ map value_byte fs
+values_at [] [] l h = refl
+values_at [] (x ∷ r) l h = absurd (omega arith)
+values_at (f ∷ fs) [] l h = absurd (omega arith)
+values_at (f ∷ fs) (x ∷ r) l h =
+    ap₂ (λ (y : ℕ) (rest : List ℕ). y ∷ rest) (h 0 (omega arith)) (values_at fs r (omega arith) (λ k m. h (suc k) (omega arith)))
 
 -- 16 bytes put in from 16 × i on
 pub part_put : (t : List ℕ) (i : ℕ) (b last : List ℕ) → record_size * i + record_size ≤ length t → length b ≡ record_size → last ≡ b

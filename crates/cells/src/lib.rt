@@ -8,13 +8,7 @@ ghost use Rattle.facts.specs.Record.{record_size, facts_from, read_cell, cell_at
 ghost use Rattle.cells.specs.Cells.{HasCell};
 
 use facts::{Cell, RECORD, UNKNOWN};
-
-// Which facts are known, low byte first.
-fn mask(low: u8, high: u8) -> u16
-    ensures { result ≡ low + 256 * high }
-{
-    low as u16 + 256 * (high as u16)
-}
+use std::array;
 
 // Fact k of a record: its value where its bit of the mask is one.
 fn fact(mask: u16, k: usize, value: u8) -> u16
@@ -22,39 +16,20 @@ fn fact(mask: u16, k: usize, value: u8) -> u16
     ensures { result ≡ pick (eqb (mask / 2 ^ k % 2) 1) value unknown }
 {
     if (mask >> k) % 2 == 1 {
-        return value as u16;
+        u16::from(value)
+    } else {
+        UNKNOWN
     }
-    UNKNOWN
 }
 
-fn load_facts(b: &[u8]) -> [u16; 11]
-    requires { length b.now ≡ record_size }
-    ensures { result ≡ facts_from b.now 0 fact_count }
-{
-    let m = mask(b[2], b[3]);
-    [
-        fact(m, 0, b[4]),
-        fact(m, 1, b[5]),
-        fact(m, 2, b[6]),
-        fact(m, 3, b[7]),
-        fact(m, 4, b[8]),
-        fact(m, 5, b[9]),
-        fact(m, 6, b[10]),
-        fact(m, 7, b[11]),
-        fact(m, 8, b[12]),
-        fact(m, 9, b[13]),
-        fact(m, 10, b[14]),
-    ]
-}
-
-// A record of 16 bytes.
-fn load_record(b: &[u8]) -> Cell
-    requires { length b.now ≡ record_size }
+// A record of 16 bytes. Bytes 2-3: which facts are known, low byte first.
+fn load_record(b: &[u8; RECORD]) -> Cell
     ensures { result ≡ read_cell b.now }
 {
+    let mask = u16::from_le_bytes([b[2], b[3]]);
     Cell {
         reached: b[0] == 1,
-        facts: load_facts(b),
+        facts: array::from_fn(|k| fact(mask, k, b[4 + k])),
     }
 }
 
@@ -63,9 +38,8 @@ pub fn load(table: &[u8], i: usize) -> Cell
     requires { record_size * i + record_size ≤ length table.now }
     ensures { result ≡ cell_at table.now i }
 {
-    let a = RECORD * i;
-    let e = a + RECORD;
-    load_record(&table[a..e])
+    let (records, _) = table.as_chunks();
+    load_record(&records[i])
 }
 
 // Is cell i of a table reached?
@@ -76,36 +50,21 @@ pub fn reached(table: &[u8], i: usize) -> bool
     table[RECORD * i] == 1
 }
 
-// The mask of a fact and of those after it.
-fn more(f: u16, rest: u16) -> u16
-    requires { rest < 1024 }
-    ensures { (result ≡ pick (is_known f) 1 0 + 2 * rest) × (result ≤ 1 + 2 * rest) }
+fn mask_of(facts: [u16; 11]) -> u16
+    ensures { result ≡ mask_of facts }
 {
-    if f == UNKNOWN {
-        return 2 * rest;
+    let mut mask = 0;
+    for (k, &f) in facts.iter().enumerate() {
+        mask += u16::from(f != UNKNOWN) << k;
     }
-    1 + 2 * rest
-}
-
-fn mask_of(f: [u16; 11]) -> u16
-    ensures { result ≡ mask_of f }
-{
-    let high = more(f[8], more(f[9], more(f[10], 0)));
-    let middle = more(f[4], more(f[5], more(f[6], more(f[7], high))));
-    more(f[0], more(f[1], more(f[2], more(f[3], middle))))
+    mask
 }
 
 // The byte of a value, 0 if unknown.
 fn value_byte(f: u16) -> u8
     ensures { f ≤ unknown → result ≡ value_byte f }
 {
-    if f < 256 { f as u8 } else { 0 }
-}
-
-fn flag(reached: bool) -> u8
-    ensures { result ≡ pick reached 1 0 }
-{
-    if reached { 1 } else { 0 }
+    u8::try_from(f).unwrap_or(0)
 }
 
 // A cell's record, with its finding.
@@ -113,26 +72,12 @@ fn record_of(c: Cell, finding: u8) -> [u8; RECORD]
     requires { FineCell c }
     ensures { result ≡ record_of c finding }
 {
-    let f = c.facts;
-    let m = mask_of(f);
-    [
-        flag(c.reached),
-        finding,
-        (m % 256) as u8,
-        (m / 256) as u8,
-        value_byte(f[0]),
-        value_byte(f[1]),
-        value_byte(f[2]),
-        value_byte(f[3]),
-        value_byte(f[4]),
-        value_byte(f[5]),
-        value_byte(f[6]),
-        value_byte(f[7]),
-        value_byte(f[8]),
-        value_byte(f[9]),
-        value_byte(f[10]),
-        0,
-    ]
+    let mut b = [0; RECORD];
+    b[0] = u8::from(c.reached);
+    b[1] = finding;
+    b[2..4].copy_from_slice(&mask_of(c.facts).to_le_bytes());
+    b[4..15].copy_from_slice(&c.facts.map(value_byte));
+    b
 }
 
 // Puts cell i with its finding into a table.
@@ -140,10 +85,8 @@ pub fn store(table: &mut [u8], i: usize, c: Cell, finding: u8)
     requires { (record_size * i + record_size ≤ length table.old) × FineCell c }
     ensures { table.new ≡ put_record table.old i (record_of c finding) }
 {
-    let b = record_of(c, finding);
     let a = RECORD * i;
-    let e = a + RECORD;
-    table[a..e].copy_from_slice(&b);
+    table[a..a + RECORD].copy_from_slice(&record_of(c, finding));
 }
 
 // Joins d into cell i of a table. Says whether the cell changed.

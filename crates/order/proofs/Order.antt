@@ -1,40 +1,54 @@
 -- Laws of the order and the join of cells as the code works them out.
-use mathlib.Core.Path.{◌≡◌, sym, ◌∙◌, ap, ap₂}
-use mathlib.Core.Bool.{Bool, true, false, not, ◌&&◌, and_assoc, and-true}
-use mathlib.Core.List.{List}
-use Prim.Native.Nat.{ℕ}
+use native.Mathlib.Omega.{arith}
+use native.Mathlib.Decide.{ℕ_discrete}
+use mathlib.Core.Path.{subst, ◌≡◌, refl, sym, ◌∙◌, ap, ap₂}
+use mathlib.Core.Bool.{Bool, true, false, not, ◌&&◌}
+use mathlib.Core.List.{List, [], ◌∷◌}
+use Prim.Native.Nat.{ℕ, zero, suc, ◌+◌, ◌≤◌, ◌<◌}
 use lib.ListN.{length, get_or}
 use borrow.Author.Tests.{not-true, not-false}
+use denote.Param.Members.{Mut, Called}
+use Rattle.std.specs.Array.{IsFromFnResultFrom}
+use Rattle.std.specs.List.{list_all, zip}
 use Rattle.choice.specs.Choice.{pick}
-use Rattle.state.specs.State.{bytes_from}
-use Rattle.state.proofs.RoundTrip.{whole}
 use Rattle.facts.specs.declared.Cell.{Cell}
-use Rattle.facts.specs.Facts.{fact_count, knows_no_more, all_know_no_more, join_facts}
+use Rattle.facts.specs.Facts.{knows_no_more, all_know_no_more, join_fact, join_facts}
 use Rattle.facts.specs.Record.{cell_of, holds_cell, join_cell}
 
--- ---- eleven facts, one by one
+-- ---- facts, one by one
 
-module _ (f g : List ℕ) (lf : length f ≡ fact_count) (lg : length g ≡ fact_count) where
-  pub all_eq : {b0 b1 b2 b3 b4 b5 b6 b7 b8 b9 b10 : Bool}
-      → b0 ≡ knows_no_more (get_or f 0 0) (get_or g 0 0)
-      → b1 ≡ knows_no_more (get_or f 1 0) (get_or g 1 0)
-      → b2 ≡ knows_no_more (get_or f 2 0) (get_or g 2 0)
-      → b3 ≡ knows_no_more (get_or f 3 0) (get_or g 3 0)
-      → b4 ≡ knows_no_more (get_or f 4 0) (get_or g 4 0)
-      → b5 ≡ knows_no_more (get_or f 5 0) (get_or g 5 0)
-      → b6 ≡ knows_no_more (get_or f 6 0) (get_or g 6 0)
-      → b7 ≡ knows_no_more (get_or f 7 0) (get_or g 7 0)
-      → b8 ≡ knows_no_more (get_or f 8 0) (get_or g 8 0)
-      → b9 ≡ knows_no_more (get_or f 9 0) (get_or g 9 0)
-      → b10 ≡ knows_no_more (get_or f 10 0) (get_or g 10 0)
-      → ((((((((((b0 && b1) && b2) && b3) && b4) && b5) && b6) && b7) && b8) && b9) && b10) ≡ all_know_no_more f g
-  unfolding all_know_no_more
-  all_eq e0 e1 e2 e3 e4 e5 e6 e7 e8 e9 e10 =
-      rw (e0, e1, e2, e3, e4, e5, e6, e7, e8, e9, e10)
-      (simp and_assoc (rw (and-true (knows_no_more (get_or f 10 0) (get_or g 10 0))) at (ap₂ all_know_no_more (whole f fact_count lf) (whole g fact_count lg))))
+-- each pair of facts in turn
+pub all_pairs : (f g : List ℕ) → length f ≡ length g → list_all (λ p. knows_no_more p.0 p.1) (zip f g) ≡ all_know_no_more f g
+unfolding all_know_no_more
+all_pairs [] g e = refl
+all_pairs (x ∷ f) [] e = absurd (omega arith)
+all_pairs (x ∷ f) (y ∷ g) e = ap (λ b. knows_no_more x y && b) (all_pairs f g (omega arith))
 
-  pub join_eq : {r : List ℕ} → r ≡ join_facts (bytes_from f 0 fact_count) (bytes_from g 0 fact_count) → r ≡ join_facts f g
-  join_eq e = e ∙ ap₂ join_facts (whole f fact_count lf) (whole g fact_count lg)
+-- a list made at each place
+pub join_at : (f g r : List ℕ) → length f ≡ length g → length r ≡ length f
+    → ((k : ℕ) → k < length f → get_or r k 0 ≡ join_fact (get_or f k 0) (get_or g k 0)) → r ≡ join_facts f g
+unfolding join_facts
+join_at [] g [] e l h = refl
+join_at [] g (z ∷ r) e l h = absurd (omega arith)
+join_at (x ∷ f) [] r e l h = absurd (omega arith)
+join_at (x ∷ f) (y ∷ g) [] e l h = absurd (omega arith)
+join_at (x ∷ f) (y ∷ g) (z ∷ r) e l h =
+    ap₂ (λ (a : ℕ) (rest : List ℕ). a ∷ rest) (h 0 (omega arith))
+    (join_at f g r (omega arith) (omega arith) (λ k m. h (suc k) (omega arith)))
+
+-- what a call at each place gave
+module _ {F : Type 0} (m : Mut F (ℕ × Unit {0}) ℕ) {f : F} (r : List ℕ) (made : ℕ → ℕ)
+    (one : (j y : ℕ) (q : F) → Called m f (j, tt) y q → (q ≡ f) × (y ≡ made j)) where
+  pub called_each : (i n k : ℕ) → IsFromFnResultFrom m f r i n → i ≤ k → k < i + n → get_or r k 0 ≡ made k
+  called_each i zero k each low high = absurd (omega arith)
+  called_each i (suc n) k (q, y, element, call, rest) low high =
+      by (ℕ_discrete k i)
+      (called_each (i + 1) n k (subst (λ s. IsFromFnResultFrom m s r (i + 1) n) (one i y q call).0 rest))
+    where
+      by : Dec (k ≡ i) → (i + 1 ≤ k → k < i + 1 + n → get_or r k 0 ≡ made k) → get_or r k 0 ≡ made k
+      by (yes e) after =
+          ap (λ (j : ℕ). get_or r j 0) e ∙ element.1 0 ∙ (one i y q call).1 ∙ ap made (sym e)
+      by (no other) after = after (omega arith) (omega arith)
 
 -- ---- cells
 

@@ -6,6 +6,7 @@ ghost use Rattle.facts.specs.Facts.{knows_no_more, all_know_no_more, join_fact, 
 ghost use Rattle.facts.specs.Record.{holds_cell, join_cell};
 
 use facts::{Cell, UNKNOWN};
+use std::array;
 
 fn knows_no_more(f: u16, g: u16) -> bool
     ensures { result ≡ knows_no_more f g }
@@ -16,17 +17,7 @@ fn knows_no_more(f: u16, g: u16) -> bool
 fn all_know_no_more(f: [u16; 11], g: [u16; 11]) -> bool
     ensures { result ≡ all_know_no_more f g }
 {
-    knows_no_more(f[0], g[0])
-        & knows_no_more(f[1], g[1])
-        & knows_no_more(f[2], g[2])
-        & knows_no_more(f[3], g[3])
-        & knows_no_more(f[4], g[4])
-        & knows_no_more(f[5], g[5])
-        & knows_no_more(f[6], g[6])
-        & knows_no_more(f[7], g[7])
-        & knows_no_more(f[8], g[8])
-        & knows_no_more(f[9], g[9])
-        & knows_no_more(f[10], g[10])
+    f.iter().zip(&g).all(|(&f, &g)| knows_no_more(f, g))
 }
 
 // Does cell c hold what d passes on?
@@ -54,19 +45,7 @@ fn join_fact(f: u16, g: u16) -> u16
 fn join_facts(f: [u16; 11], g: [u16; 11]) -> [u16; 11]
     ensures { result ≡ join_facts f g }
 {
-    [
-        join_fact(f[0], g[0]),
-        join_fact(f[1], g[1]),
-        join_fact(f[2], g[2]),
-        join_fact(f[3], g[3]),
-        join_fact(f[4], g[4]),
-        join_fact(f[5], g[5]),
-        join_fact(f[6], g[6]),
-        join_fact(f[7], g[7]),
-        join_fact(f[8], g[8]),
-        join_fact(f[9], g[9]),
-        join_fact(f[10], g[10]),
-    ]
+    array::from_fn(|k| join_fact(f[k], g[k]))
 }
 
 // What both c and d know.

@@ -16,14 +16,7 @@ const VALUES: usize = 4;
 fn all_zero(b: &[u8]) -> bool
     ensures { result ≡ all_zero b.now }
 {
-    let mut k = 0;
-    while k < b.len() {
-        if b[k] != 0 {
-            return false;
-        }
-        k += 1;
-    }
-    true
+    b.iter().all(|&x| x == 0)
 }
 
 // Which facts are known, low byte first.
@@ -31,7 +24,7 @@ fn mask(b: &[u8]) -> u16
     requires { length b.now ≡ record_size }
     ensures { result ≡ mask_in b.now }
 {
-    b[2] as u16 + 256 * (b[3] as u16)
+    u16::from_le_bytes([b[2], b[3]])
 }
 
 // The byte of fact k is 0 where its bit of the mask is not one.
@@ -47,14 +40,7 @@ fn values_fit(b: &[u8]) -> bool
     ensures { result ≡ values_fit b.now 0 fact_count }
 {
     let m = mask(b);
-    let mut k = 0;
-    while k < FACTS {
-        if !value_fits(m, k, b[VALUES + k]) {
-            return false;
-        }
-        k += 1;
-    }
-    true
+    (0..FACTS).all(|k| value_fits(m, k, b[VALUES + k]))
 }
 
 // No finding, no bit of the mask above fact 10, OVF unknown, 0 or 1.
@@ -65,13 +51,14 @@ fn reached_fits(b: &[u8]) -> bool
     (b[1] == 0) & (mask(b) < 2048) & values_fit(b) & (b[VALUES + OVERFLOW] < 2) & (b[15] == 0)
 }
 
-// A record of 16 bytes; one that is not reached is all zero.
+// A record of 16 bytes; one that is not reached is all zero. It is a slice, as `checking` cuts it from a table.
 pub fn record_fits(b: &[u8]) -> bool
     requires { length b.now ≡ record_size }
     ensures { result ≡ record_fits b.now }
 {
     if b[0] == 1 {
-        return reached_fits(b);
+        reached_fits(b)
+    } else {
+        all_zero(b)
     }
-    all_zero(b)
 }

@@ -1,4 +1,4 @@
--- `bitset::has` meets its contract: the last bit of the shifted word is its remainder by 2. Assumes nothing.
+-- `bitset::has` meets its contract. Assumes nothing.
 use mathlib.Core.Path.{ap}
 use Prim.Native.Nat.{ℕ, ◌/◌, ◌%◌, ◌^◌}
 use lib.Bits.{and_mask}
@@ -7,6 +7,7 @@ use lib.ListN.{get_or}
 use Rattle.bitset.specs.Bitset.{has}
 use Rattle.bitset.proofs.has.Goals as goal
 
+-- the last bit of the shifted word is its remainder by 2
 pub returns : goal.returns
 unfolding has
 returns c =

@@ -1,13 +1,10 @@
 -- `bitset::highest` meets its contract. Assumes nothing.
-use native.Mathlib.Omega.{arith}
-use Rattle.bitset.proofs.Highs.{zeros_fit, highest_one}
+use mathlib.Core.Path.{sym, ◌∙◌}
+use Rattle.bitset.proofs.Highs.{cut_is, highest_some}
 use Rattle.bitset.proofs.highest.Goals as goal
 
-pub overflow_cast-result : goal.overflow_cast-result
-overflow_cast-result c = omega (arith, zeros_fit c.args.w c.args.k c.requires)
-
-pub overflow_sub-result : goal.overflow_sub-result
-overflow_sub-result c = zeros_fit c.args.w c.args.k c.requires
+pub returns-then-x-eq0 : goal.returns-then-x-eq0
+returns-then-x-eq0 c = sym (cut_is c.args.w c.args.k c.requires) ∙ c.if-x-eq0.true
 
 pub returns : goal.returns
-returns c = highest_one c.args.w c.args.k c.requires
+returns c = highest_some c.args.w c.args.k c.requires c.if-x-eq0.false

@@ -1,28 +1,18 @@
 -- `bitset::last` meets its contract. Assumes nothing.
+use mathlib.Core.Path.{sym, subst}
 use Prim.Native.Nat.{◌-◌, ◌/◌}
 use native.Mathlib.Omega.{arith}
+use Rattle.bitset.specs.Bitset.{Last}
 use Rattle.bitset.proofs.Nexts.{clear_none, start_at}
-use Rattle.bitset.proofs.Lasts.{last_none, last_some, front_clear}
+use Rattle.bitset.proofs.Lasts.{front_clear, last_some}
 use Rattle.bitset.proofs.last.Goals as goal
 
-pub returns-then-from-end : goal.returns-then-from-end
-returns-then-from-end c =
-    let start = c in
-    last_none start.args.set.now (clear_none start.args.set.now start.args.end) (omega arith) start.requires.0
-
-pub returns-then-k-gt0 : goal.returns-then-k-gt0
-returns-then-k-gt0 c =
-    let start = c in
-    let set = start.args.set.now in
-    let some = c.if-from-end.false in
-    last_some set ((start.args.end - 1) / 64) (omega arith) c.highest-k.ensures c.if-k-gt0.true
-    (start_at set (omega (arith, start.requires.0)) (clear_none set start.args.end)) (omega (arith, start.requires.0)) start.requires.0
-    c.most.ensures
+pub returns-in-Some : goal.returns-in-Some
+returns-in-Some c =
+    let set = c.args.set.now in
+    subst (Last set c.args.from c.args.end) (sym c.max.ensures)
+    (last_some set ((c.args.end - 1) / 64) (omega arith) c.in-Some.ensures (start_at set (omega arith) (clear_none set c.args.end))
+    (omega arith) c.requires.0)
 
 pub last_word-requires : goal.last_word-requires
-last_word-requires c =
-    let start = c in (
-      omega arith,
-      start.requires.1,
-      front_clear start.args.set.now start.args.end (omega arith) c.highest-k.ensures c.if-k-gt0.false,
-    )
+last_word-requires c = (omega arith, c.requires.1, front_clear c.args.set.now c.args.end (omega arith) c.in-None.ensures)

@@ -1,13 +1,11 @@
 -- `callers::gives` meets its contract. Assumes nothing.
-use native.Mathlib.Omega.{arith}
-use Rattle.machine.proofs.InRange.{page_range}
-use Rattle.callers.proofs.Executing.{gives_told}
+use mathlib.Core.Path.{ap₂}
+use Prim.Native.Nat.{ℕ, ◌+◌, ◌-◌, ◌%◌}
+use lib.Dec.{ltb}
+use Rattle.transfer.specs.Passes.{gives}
 use Rattle.callers.proofs.gives.Goals as goal
 
-pub overflow_add-k : goal.overflow_add-k
-overflow_add-k c = omega (arith, (page_range c.args.page c.requires.0).1, c.requires.3)
-
 pub returns : goal.returns
+unfolding gives
 returns c =
-    let start = c in
-    gives_told start.args.page start.args.i start.args.v start.args.k c.kept.ensures.0 c.kept-2.ensures.0
+    ap₂ (λ (i size : ℕ). ltb ((c.args.k + (size - (i + c.args.v.low) % size)) % size) c.args.v.count) c.from.ensures c.size-size.ensures.0

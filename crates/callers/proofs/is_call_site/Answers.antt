@@ -30,8 +30,8 @@ returns-then-not-reached c =
     let start = c in
     no_site start.args.image.now start.args.table.now start.args.depth start.args.a c.reached.ensures (ap not c.if-not-reached.true)
 
-pub load-c-requires : goal.load-c-requires
-load-c-requires c =
+pub load-requires : goal.load-requires
+load-requires c =
     let start = c in
     let a = start.args in
     rw start.requires.0.long (point_room (word_count a.image.now) a.depth a.a start.requires.2 start.requires.1)
@@ -40,18 +40,17 @@ pub xec_performs-requires : goal.xec_performs-requires
 xec_performs-requires c =
     let start = c in
     let a = start.args in
-    let fits = subst FormFits c.in-Defer.is c.form_at-form.ensures.1 in
-    (record { words = start.requires.0.words; inside = start.requires.2 }, site_bounded a.image.now a.table.now a.depth a.a start.requires.0 start.requires.1 start.requires.2 c.load-c.ensures, fits.0, fits.1, fits.2)
+    (record { words = start.requires.0.words; inside = start.requires.2 }, site_bounded a.image.now a.table.now a.depth a.a start.requires.0 start.requires.1 start.requires.2 c.load.ensures, subst FormFits c.in-Defer.is c.form_at.ensures.1)
 
 pub returns-in-Defer : goal.returns-in-Defer
 returns-in-Defer c =
     let a = c.args in
-    site a.image.now a.table.now a.depth a.a c.reached.ensures (ap not c.if-not-reached.false) c.load-c.ensures
-    (sym (ap shape_is c.in-Defer.is) ∙ c.form_at-form.ensures.0) c.xec_performs.ensures
+    site a.image.now a.table.now a.depth a.a c.reached.ensures (ap not c.if-not-reached.false) c.load.ensures
+    (sym (ap shape_is c.in-Defer.is) ∙ c.form_at.ensures.0) c.xec_performs.ensures
 
-pub returns : goal.returns
-returns c =
+pub returns-in_default : goal.returns-in_default
+returns-in_default c =
     let a = c.args in
-    let form = c.form_at-form.result in
-    site a.image.now a.table.now a.depth a.a c.reached.ensures (ap not c.if-not-reached.false) refl c.form_at-form.ensures.0
+    let form = c.form_at.result in
+    site a.image.now a.table.now a.depth a.a c.reached.ensures (ap not c.if-not-reached.false) refl c.form_at.ensures.0
     (c.is_call.ensures ∙ sym (ap (some is_call) (itself a.image.now a.a _ form c.in_default.not-Defer) ∙ one_word is_call (shape_is form)))

@@ -11,7 +11,8 @@ returns-then-f-eq-UNKNOWN c =
 pub returns-then-s-lt-FIRST_BANK : goal.returns-then-s-lt-FIRST_BANK
 returns-then-s-lt-FIRST_BANK c =
     let start = c in
-    (known_values start.args.facts start.args.s start.args.l c.fact_of-f.result c.if-s-lt-FIRST_BANK.true (c.fact_of-f.ensures.0 start.args.l) c.if-f-eq-UNKNOWN.false, omega (arith, c.fact_of-f.ensures.1, c.if-f-eq-UNKNOWN.false))
+    let f = c.from.ensures in
+    (rw f (known_values start.args.facts start.args.s start.args.l c.fact_of-f.result c.if-s-lt-FIRST_BANK.true (c.fact_of-f.ensures.0 start.args.l) c.if-f-eq-UNKNOWN.false), omega (arith, f, c.fact_of-f.ensures.1, c.if-f-eq-UNKNOWN.false))
 
 pub returns-then-l-eq0 : goal.returns-then-l-eq0
 returns-then-l-eq0 c =

@@ -1,7 +1,17 @@
 -- `cells::load` meets its contract. Assumes nothing.
-use mathlib.Core.Path.{◌∙◌}
-use Rattle.cells.proofs.Laws.{part_read}
+use mathlib.Core.Path.{ap, ◌∙◌}
+use native.Mathlib.Omega.{arith}
+use lib.ListN.{get_or}
+use Prim.Native.Nat.{◌/◌}
+use lib.ListN.{length}
+use mathlib.Core.List.{[]}
+use Rattle.facts.specs.Record.{read_cell, cell_at}
+use Rattle.cells.proofs.Laws.{chunk_at}
 use Rattle.cells.proofs.load.Goals as goal
 
 pub returns : goal.returns
-returns c = c.load_record.ensures ∙ part_read c.args.table.now c.args.i
+unfolding cell_at
+returns c =
+    c.load_record.ensures
+    ∙ ap (λ l. read_cell (get_or l c.args.i [])) c.as_chunks.ensures.front
+    ∙ ap read_cell (chunk_at 16 (length c.args.table.now / 16) c.args.table.now c.args.i [] (omega (arith, c.requires)))

@@ -5,5 +5,5 @@ use Rattle.records.proofs.record_fits.Goals as goal
 pub returns-then-b-eq1 : goal.returns-then-b-eq1
 returns-then-b-eq1 c = fits_reached c.args.b.now c.reached_fits.ensures c.if-b-eq1.true
 
-pub returns : goal.returns
-returns c = fits_zero c.args.b.now c.all_zero.ensures c.if-b-eq1.false
+pub returns-else-b-eq1 : goal.returns-else-b-eq1
+returns-else-b-eq1 c = fits_zero c.args.b.now c.all_zero.ensures c.if-b-eq1.false
