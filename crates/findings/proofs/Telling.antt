@@ -1,5 +1,5 @@
 -- Laws of what a part of the cell questions tells: none, one question, and two parts in order.
-use mathlib.Core.Path.{◌≡◌, refl, sym, ◌∙◌, ap}
+use mathlib.Core.Path.{◌≡◌, refl, sym, ◌∙◌, ap, subst⁻¹}
 use mathlib.Core.Bool.{Bool, true, false}
 use mathlib.Core.List.{List, [], ◌∷◌, ◌++◌, append_assoc, append-nil}
 use Prim.Native.Nat.{ℕ}
@@ -46,7 +46,7 @@ fault_some Executed z = absurd (omega arith)
 fault_some Layout z = absurd (omega arith)
 fault_some Unheld z = absurd (omega arith)
 
--- what `?` hands on is the fault that came
-pub handed_on : (r : Result ⊤ Fault) {fault : Fault} → IsErrAnd r (λ e. e ≡ fault) → fault_number fault ≡ finding_number r
-handed_on (Ok fine) none = absurd none
-handed_on (Err e) same = ap fault_number (sym same)
+-- what `?` hands on tells what came
+pub hand_on : (r : Result ⊤ Fault) (fault : Fault) (qs : List Question) → IsErrAnd r (λ e. e ≡ fault) → Tells (fault_number fault) qs → Tells (finding_number r) qs
+hand_on (Ok fine) fault qs none t = absurd none
+hand_on (Err e) fault qs same t = subst⁻¹ (λ (x : Fault). Tells (fault_number x) qs) same t

@@ -145,7 +145,13 @@ fn argument_finding(map: &[u8], facts: [u16; 11], a: Delivery) -> Result<(), Fau
 }
 
 // MOVE, ADD, AND, XOR and XMIT.
-fn act_finding(image: &[u8], map: &[u8], pc: usize, facts: [u16; 11], a: Delivery) -> Result<(), Fault>
+fn act_finding(
+    image: &[u8],
+    map: &[u8],
+    pc: usize,
+    facts: [u16; 11],
+    a: Delivery,
+) -> Result<(), Fault>
     requires { InImage image.now pc × (length map.now ≡ map_length) × Bounded facts × (a.l < 8) }
     ensures { (table : List ℕ) (depth : ℕ) → Tells (finding_number result) (word_findings image.now map.now table depth pc facts (shape_of_delivery a)) }
 {
@@ -282,7 +288,7 @@ fn xec_finding(
 {
     let v = callers::values_of(facts, w.s, w.l);
     for k in 0..w.page.size() {
-        if callers::gives(w.page, w.i, v, k) {
+        if callers::gives(w, v, k) {
             executed_finding(
                 image,
                 map,
@@ -333,7 +339,13 @@ fn below(depth: usize) -> usize
 }
 
 // The finding of a cell.
-pub fn cell_finding(image: &[u8], map: &[u8], table: &[u8], depth: usize, pc: usize) -> Result<(), Fault>
+pub fn cell_finding(
+    image: &[u8],
+    map: &[u8],
+    table: &[u8],
+    depth: usize,
+    pc: usize,
+) -> Result<(), Fault>
     requires { Held image.now table.now × (length map.now ≡ map_length) × (depth < 9) × (pc < word_count image.now) }
     ensures { finding_number result ≡ finding_at image.now map.now table.now (point_at (word_count image.now) depth pc) }
 {

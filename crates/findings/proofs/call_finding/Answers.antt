@@ -1,5 +1,4 @@
 -- `findings::call_finding` meets its contract. Assumes nothing.
-use mathlib.Core.Path.{refl}
 use mathlib.Core.Bool.{◌&&◌}
 use Prim.Native.Nat.{◌+◌, ◌*◌}
 use lib.Dec.{ltb}
@@ -18,16 +17,16 @@ returns-then-v-ne1 c = λ map table.
     let v = c.values_of-v in
     call_unknown a.image.now map table a.facts a.depth a.pc a.i v.result.low v.result.count v.ensures.0 c.if-depth-ge-PLACES.false c.if-v-ne1.true
 
-pub returns-then-v-i : goal.returns-then-v-i
-returns-then-v-i c = λ map table.
+pub returns-then-v-from : goal.returns-then-v-from
+returns-then-v-from c = λ map table.
     let a = c.args in
     let v = c.values_of-v in
     call_inside a.image.now map table a.facts a.depth a.pc a.i v.result.low v.result.count v.ensures.0
-    (ltb (v.result.low * 256 + a.i) (word_count a.image.now) && ltb (a.pc + 1) (word_count a.image.now)) c.if-depth-ge-PLACES.false c.if-v-ne1.false refl c.if-v-i.true
+    (ltb (v.result.low * 256 + c.from.result) (word_count a.image.now) && ltb (a.pc + 1) (word_count a.image.now)) c.if-depth-ge-PLACES.false c.if-v-ne1.false (rw c.from.ensures) c.if-v-from.true
 
-pub returns-else-v-i : goal.returns-else-v-i
-returns-else-v-i c = λ map table.
+pub returns-else-v-from : goal.returns-else-v-from
+returns-else-v-from c = λ map table.
     let a = c.args in
     let v = c.values_of-v in
     call_outside a.image.now map table a.facts a.depth a.pc a.i v.result.low v.result.count v.ensures.0
-    (ltb (v.result.low * 256 + a.i) (word_count a.image.now) && ltb (a.pc + 1) (word_count a.image.now)) c.if-depth-ge-PLACES.false c.if-v-ne1.false refl c.if-v-i.false
+    (ltb (v.result.low * 256 + c.from.result) (word_count a.image.now) && ltb (a.pc + 1) (word_count a.image.now)) c.if-depth-ge-PLACES.false c.if-v-ne1.false (rw c.from.ensures) c.if-v-from.false

@@ -1,5 +1,5 @@
 -- `findings::cell_finding` meets its contract. Assumes nothing.
-use mathlib.Core.Path.{◌∙◌, sym, subst}
+use mathlib.Core.Path.{refl, ◌∙◌, sym, subst}
 use native.Mathlib.Omega.{arith}
 use Rattle.word.specs.Word.{InRange}
 use Rattle.machine.specs.Step.{word_count}
@@ -9,6 +9,9 @@ use Rattle.machine.proofs.Fetching.{no_shape}
 use Rattle.processor.proofs.Forming.{read_shape}
 use Rattle.callers.proofs.Points.{point_small, point_room}
 use Rattle.callers.proofs.Sites.{site_bounded}
+use Rattle.transfer.specs.Findings.{cell_questions}
+use Rattle.findings.specs.Findings.{fault_number, finding_number}
+use Rattle.findings.proofs.Telling.{fault_some, hand_on}
 use Rattle.findings.proofs.Passing.{asked_below_lem, cell_unreached, cell_told, cell_invalid, cell_stop, cell_on}
 use Rattle.findings.proofs.cell_finding.Goals as goal
 
@@ -46,10 +49,10 @@ returns-in_default c =
     (cell_invalid a.image.now a.map.now a.table.now cell.result.facts a.depth a.pc (no_shape a.image.now a.pc c.word_at.ensures.0 none))
 
 pub form_of-form-requires : goal.form_of-form-requires
-form_of-form-requires c = subst InRange (subst (Fetches c.word_at.result) c.in-Valid.is c.fetched_of.ensures).0 c.word_at.ensures.1
+form_of-form-requires c = subst InRange (subst (Fetches c.word_at.result) c.in-Some.is c.fetched_of.ensures).0 c.word_at.ensures.1
 
-pub word_finding-f-requires : goal.word_finding-f-requires
-word_finding-f-requires c =
+pub word_finding-requires : goal.word_finding-requires
+word_finding-requires c =
     let start = c in
     let a = start.args in (
       record { words = start.requires.0.words; inside = start.requires.3 },
@@ -58,17 +61,19 @@ word_finding-f-requires c =
       c.form_of-form.ensures.1,
     )
 
-pub returns-then-f-ne0 : goal.returns-then-f-ne0
-returns-then-f-ne0 c =
+pub returns-in_err-word_finding : goal.returns-in_err-word_finding
+returns-in_err-word_finding c =
     let start = c in
     let a = start.args in
     let cell = c.load-c in
     let asked = asked_below_lem a.image.now a.table.now a.depth c.below.result c.returns_inside-back.result c.returns_inside-back.ensures c.below.ensures in
-    let word = (subst (Fetches c.word_at.result) c.in-Valid.is c.fetched_of.ensures).0 in
+    let word = (subst (Fetches c.word_at.result) c.in-Some.is c.fetched_of.ensures).0 in
     let shape = read_shape a.image.now a.pc (sym word ∙ c.word_at.ensures.0) c.form_of-form.ensures.0 in
-    cell_told a.image.now a.map.now a.table.now a.depth a.pc start.requires.3 cell.result cell.ensures c.word_finding-f.result c.if-not-c.false
-    (cell_stop a.image.now a.map.now a.table.now cell.result.facts a.depth a.pc (shape_is c.form_of-form.result) (sym shape) c.word_finding-f.result c.if-f-ne0.true
-    (c.word_finding-f.ensures a.table.now asked))
+    let fault = c.in_err-word_finding.field-0.0 in
+    cell_told a.image.now a.map.now a.table.now a.depth a.pc start.requires.3 cell.result cell.ensures (finding_number c.from_residual.result) c.if-not-c.false
+    (hand_on c.from_residual.result fault (cell_questions a.image.now a.map.now a.table.now a.depth a.pc cell.result.facts) c.from_residual.ensures.1
+    (cell_stop a.image.now a.map.now a.table.now cell.result.facts a.depth a.pc (shape_is c.form_of-form.result) (sym shape) (fault_number fault) (fault_some fault)
+    (c.in_err-word_finding.ensures a.table.now asked)))
 
 pub defer_finding-requires : goal.defer_finding-requires
 defer_finding-requires c =
@@ -86,8 +91,8 @@ returns c =
     let a = start.args in
     let cell = c.load-c in
     let asked = asked_below_lem a.image.now a.table.now a.depth c.below.result c.returns_inside-back.result c.returns_inside-back.ensures c.below.ensures in
-    let word = (subst (Fetches c.word_at.result) c.in-Valid.is c.fetched_of.ensures).0 in
+    let word = (subst (Fetches c.word_at.result) c.in-Some.is c.fetched_of.ensures).0 in
     let shape = read_shape a.image.now a.pc (sym word ∙ c.word_at.ensures.0) c.form_of-form.ensures.0 in
-    cell_told a.image.now a.map.now a.table.now a.depth a.pc start.requires.3 cell.result cell.ensures c.defer_finding.result c.if-not-c.false
-    (cell_on a.image.now a.map.now a.table.now cell.result.facts a.depth a.pc (shape_is c.form_of-form.result) (sym shape) c.word_finding-f.result c.defer_finding.result c.if-f-ne0.false
-    (c.word_finding-f.ensures a.table.now asked) (c.defer_finding.ensures a.table.now asked))
+    cell_told a.image.now a.map.now a.table.now a.depth a.pc start.requires.3 cell.result cell.ensures (finding_number c.defer_finding.result) c.if-not-c.false
+    (cell_on a.image.now a.map.now a.table.now cell.result.facts a.depth a.pc (shape_is c.form_of-form.result) (sym shape) 0 (finding_number c.defer_finding.result) refl
+    (c.in_ok-word_finding.ensures a.table.now asked) (c.defer_finding.ensures a.table.now asked))

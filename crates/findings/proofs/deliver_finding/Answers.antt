@@ -2,6 +2,19 @@
 use native.Mathlib.Omega.{arith}
 use lib.Dec.{lit<}
 use Rattle.cells.proofs.Laws.{fact_bound}
+use mathlib.Core.Path.{refl}
+use mathlib.Core.List.{[], ◌∷◌, ◌++◌}
+use Prim.Native.Nat.{◌+◌}
+use lib.Dec.{ltb}
+use lib.ListN.{get_or}
+use Rattle.choice.specs.Choice.{ask}
+use Rattle.machine.specs.Shape.{target_of}
+use Rattle.machine.specs.Step.{word_count}
+use Rattle.machine.specs.Parts.{operation_number}
+use Rattle.facts.specs.Facts.{unknown, result_fact}
+use Rattle.transfer.specs.Findings.{target_questions}
+use Rattle.findings.specs.Findings.{fault_number, finding_number}
+use Rattle.findings.proofs.Telling.{fault_some, hand_on}
 use Rattle.findings.proofs.Asking.{delivered_stop, delivered_on}
 use Rattle.findings.proofs.deliver_finding.Goals as goal
 
@@ -11,14 +24,18 @@ result_fact-y-requires c =
     let known = start.well_formed.1.1.1.0 in
     (fact_bound start.args.facts (omega (arith, known)) start.requires.2 0 (lit< tt), start.requires.3)
 
-pub returns-then-f-ne0 : goal.returns-then-f-ne0
-returns-then-f-ne0 c = λ l.
-    let start = c in
-    let known = start.well_formed.1.1.1.0 in
-    delivered_stop start.args.image.now start.args.map.now start.args.facts (omega (arith, known)) start.args.pc start.args.op start.args.d l start.args.x c.result_fact-y.result c.target_finding-f.result c.result_fact-y.ensures.0 c.if-f-ne0.true (c.target_finding-f.ensures l)
+pub returns-in_err-target_finding : goal.returns-in_err-target_finding
+returns-in_err-target_finding c = λ l.
+    let a = c.args in
+    let known = c.well_formed.1.1.1.0 in
+    let fault = c.in_err-target_finding.field-0.0 in
+    hand_on c.from_residual.result fault
+    (target_questions a.map.now (target_of a.d l) (result_fact (operation_number a.op) (get_or a.facts 0 unknown) a.x) a.facts ++ (ask 21 (ltb (a.pc + 1) (word_count a.image.now)) ∷ []))
+    c.from_residual.ensures.1
+    (delivered_stop a.image.now a.map.now a.facts (omega (arith, known)) a.pc (operation_number a.op) a.d l a.x c.result_fact-y.result (fault_number fault) c.result_fact-y.ensures.0 (fault_some fault) (c.in_err-target_finding.ensures l))
 
 pub returns : goal.returns
 returns c = λ l.
-    let start = c in
-    let known = start.well_formed.1.1.1.0 in
-    delivered_on start.args.image.now start.args.map.now start.args.facts (omega (arith, known)) start.args.pc start.args.op start.args.d l start.args.x c.result_fact-y.result c.target_finding-f.result c.next_finding.result c.result_fact-y.ensures.0 c.if-f-ne0.false (c.target_finding-f.ensures l) c.next_finding.ensures
+    let a = c.args in
+    let known = c.well_formed.1.1.1.0 in
+    delivered_on a.image.now a.map.now a.facts (omega (arith, known)) a.pc (operation_number a.op) a.d l a.x c.result_fact-y.result 0 (finding_number c.next_finding.result) c.result_fact-y.ensures.0 refl (c.in_ok-target_finding.ensures l) c.next_finding.ensures

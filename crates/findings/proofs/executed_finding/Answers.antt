@@ -5,6 +5,7 @@ use Rattle.forms.specs.Forms.{shape_is}
 use Rattle.processor.specs.Fetching.{Fetches}
 use Rattle.machine.proofs.Fetching.{no_shape}
 use Rattle.processor.proofs.Forming.{read_shape}
+use Rattle.findings.specs.Findings.{finding_number}
 use Rattle.findings.proofs.Passing.{executed_outside, executed_invalid, executed_defer, executed_word}
 use Rattle.findings.proofs.executed_finding.Goals as goal
 
@@ -20,18 +21,18 @@ returns-in_default c = λ table e.
     executed_invalid a.image.now a.map.now table a.facts a.depth a.pc a.a c.if-image-a.false (no_shape a.image.now a.a c.word_at.ensures.0 none)
 
 pub form_of-form-requires : goal.form_of-form-requires
-form_of-form-requires c = subst InRange (subst (Fetches c.word_at.result) c.in-Valid.is c.fetched_of.ensures).0 c.word_at.ensures.1
+form_of-form-requires c = subst InRange (subst (Fetches c.word_at.result) c.in-Some.is c.fetched_of.ensures).0 c.word_at.ensures.1
 
 pub returns-then-is_xec : goal.returns-then-is_xec
 returns-then-is_xec c = λ table e.
     let a = c.args in
-    let word = (subst (Fetches c.word_at.result) c.in-Valid.is c.fetched_of.ensures).0 in
+    let word = (subst (Fetches c.word_at.result) c.in-Some.is c.fetched_of.ensures).0 in
     let shape = read_shape a.image.now a.a (sym word ∙ c.word_at.ensures.0) c.form_of-form.ensures.0 in
     executed_defer a.image.now a.map.now table a.facts a.depth a.pc a.a (shape_is c.form_of-form.result) c.is_xec.result c.if-image-a.false (sym shape) c.is_xec.ensures c.if-is_xec.true
 
 pub returns : goal.returns
 returns c = λ table e.
     let a = c.args in
-    let word = (subst (Fetches c.word_at.result) c.in-Valid.is c.fetched_of.ensures).0 in
+    let word = (subst (Fetches c.word_at.result) c.in-Some.is c.fetched_of.ensures).0 in
     let shape = read_shape a.image.now a.a (sym word ∙ c.word_at.ensures.0) c.form_of-form.ensures.0 in
-    executed_word a.image.now a.map.now table a.facts a.depth a.pc a.a c.word_finding.result (shape_is c.form_of-form.result) c.is_xec.result c.if-image-a.false (sym shape) c.is_xec.ensures c.if-is_xec.false (c.word_finding.ensures table e)
+    executed_word a.image.now a.map.now table a.facts a.depth a.pc a.a (finding_number c.word_finding.result) (shape_is c.form_of-form.result) c.is_xec.result c.if-image-a.false (sym shape) c.is_xec.ensures c.if-is_xec.false (c.word_finding.ensures table e)

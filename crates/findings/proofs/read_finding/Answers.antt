@@ -19,16 +19,16 @@ pub readable-requires : goal.readable-requires
 readable-requires c =
     let start = c in
     let known = start.well_formed.1.0 in
-    (start.requires.0, omega arith, address_fits start.args.facts (omega (arith, known)) start.requires.1 start.args.s c.wide.result c.if-a-eq-UNKNOWN.false c.wide.ensures)
+    (start.requires.0, omega arith, address_fits start.args.facts (omega (arith, known)) start.requires.1 start.args.s c.from.result c.if-a-eq-UNKNOWN.false c.from.ensures)
 
 pub returns-then-not-readable : goal.returns-then-not-readable
 returns-then-not-readable c = λ places kept l.
     let start = c in
     let known = start.well_formed.1.0 in
-    read_refused start.args.map.now start.args.facts (omega (arith, known)) start.args.s places kept l c.wide.result c.readable.result c.if-s-lt-FIRST_BANK.false c.if-a-eq-UNKNOWN.false c.wide.ensures c.readable.ensures (c.if-not-readable.true)
+    read_refused start.args.map.now start.args.facts (omega (arith, known)) start.args.s places kept l c.from.result c.readable.result c.if-s-lt-FIRST_BANK.false c.if-a-eq-UNKNOWN.false c.from.ensures c.readable.ensures (c.if-not-readable.true)
 
 pub returns : goal.returns
 returns c = λ places kept l.
     let start = c in
     let known = start.well_formed.1.0 in
-    read_fine start.args.map.now start.args.facts (omega (arith, known)) start.args.s places kept l c.wide.result c.readable.result c.if-s-lt-FIRST_BANK.false c.if-a-eq-UNKNOWN.false c.wide.ensures c.readable.ensures (c.if-not-readable.false)
+    read_fine start.args.map.now start.args.facts (omega (arith, known)) start.args.s places kept l c.from.result c.readable.result c.if-s-lt-FIRST_BANK.false c.if-a-eq-UNKNOWN.false c.from.ensures c.readable.ensures (c.if-not-readable.false)

@@ -1,50 +1,47 @@
 -- `findings::xec_finding` meets its contract. The invariant: the places before k have told nothing.
 -- Assumes nothing.
+use mathlib.Core.Path.{refl}
 use native.Mathlib.Omega.{arith}
+use Rattle.control.specs.Pages.{page_size, defer_shape}
 use Rattle.machine.specs.Shape.{source_of}
 use Rattle.callers.specs.Callers.{span_is}
+use Rattle.transfer.specs.Findings.{defer_findings}
+use Rattle.findings.specs.Findings.{fault_number}
+use Rattle.findings.proofs.Telling.{fault_some, hand_on}
 use Rattle.findings.proofs.Passing.{begins, skips, goes_on_lem, stops, ends}
 use Rattle.findings.proofs.xec_finding.Goals as goal
-use Rattle.findings.proofs.xec_finding.Goals.{then-gives+else-f-ne0, else-gives}
+use Rattle.findings.proofs.xec_finding.Goals.{then-gives+in_ok-executed_finding, else-gives}
 
 pub loop-k-init : goal.loop-k-init
 loop-k-init c =
-    let start = c in
-    let a = start.args in
-    (omega arith, begins a.image.now a.map.now a.facts a.depth a.pc a.page a.i (source_of a.s 0 0 a.l) a.back)
+    let a = c.args in
+    begins a.image.now a.map.now a.facts a.depth a.pc (page_size a.w.page) a.w.i (source_of a.w.s 0 0 a.w.l) a.back
 
-pub returns-then-f-ne0 : goal.returns-then-f-ne0
-returns-then-f-ne0 c =
-    let start = c in
-    let a = start.args in
+pub returns-in_err-executed_finding : goal.returns-in_err-executed_finding
+returns-in_err-executed_finding c = λ table asked.
+    let a = c.args in
     let p = c.loop-k in
     let v = c.values_of-v in
     let g = c.gives in
-    stops a.image.now a.map.now a.facts a.depth a.pc a.page a.i (source_of a.s 0 0 a.l) a.back p.k (span_is v.result) g.result c.loop-k-test.true v.ensures.0 g.ensures p.invariant.1 c.if-gives.true
-    c.in_page-a.result c.executed_finding-f.result c.in_page-a.ensures c.executed_finding-f.ensures c.if-f-ne0.true
+    let fault = c.in_err-executed_finding.field-0.0 in
+    hand_on c.from_residual.result fault (defer_findings a.image.now a.map.now table a.depth a.pc a.facts (defer_shape a.w)) c.from_residual.ensures.1
+    (stops a.image.now a.map.now a.facts a.depth a.pc (page_size a.w.page) a.w.i (source_of a.w.s 0 0 a.w.l) a.back p.k (span_is v.result) g.result (omega (arith, c.loop-k-test.true)) v.ensures.0 g.ensures p.invariant c.if-gives.true
+    c.in_page.result (fault_number fault) c.in_page.ensures c.in_err-executed_finding.ensures (fault_some fault) table asked)
 
 pub loop-k-preserved : goal.loop-k-preserved
 loop-k-preserved c =
-    let start = c in
-    let a = start.args in
+    let a = c.args in
     let p = c.loop-k in
     let v = c.values_of-v in
     let g = c.gives in
-    let h = c.loop-k-test.true in
     elim c.if-gives.branch [
-      | then-gives+else-f-ne0 w ↦ (
-        omega arith,
-        goes_on_lem a.image.now a.map.now a.facts a.depth a.pc a.page a.i (source_of a.s 0 0 a.l) a.back p.k (span_is v.result) g.result h v.ensures.0 g.ensures p.invariant.1 w.if-gives.true
-            w.in_page-a.result w.executed_finding-f.result w.in_page-a.ensures w.executed_finding-f.ensures w.if-f-ne0.false,
-      )
-      | else-gives w ↦ (omega arith, skips a.image.now a.map.now a.facts a.depth a.pc a.page a.i (source_of a.s 0 0 a.l) a.back p.k (span_is v.result) g.result h v.ensures.0 g.ensures p.invariant.1 w.if-gives.false)
+      | then-gives+in_ok-executed_finding w ↦
+          goes_on_lem a.image.now a.map.now a.facts a.depth a.pc (page_size a.w.page) a.w.i (source_of a.w.s 0 0 a.w.l) a.back p.k (span_is v.result) g.result (omega (arith, c.loop-k-test.true)) v.ensures.0 g.ensures p.invariant w.if-gives.true
+          w.in_page.result 0 w.in_page.ensures w.in_ok-executed_finding.ensures refl
+      | else-gives w ↦ skips a.image.now a.map.now a.facts a.depth a.pc (page_size a.w.page) a.w.i (source_of a.w.s 0 0 a.w.l) a.back p.k (span_is v.result) g.result (omega (arith, c.loop-k-test.true)) v.ensures.0 g.ensures p.invariant w.if-gives.false
     ]
 
 pub returns : goal.returns
 returns c =
-    let start = c in
-    let a = start.args in
-    ends a.image.now a.map.now a.facts a.depth a.pc a.page a.i (source_of a.s 0 0 a.l) a.back c.loop-k.k c.loop-k-test.false c.loop-k.invariant.1
-
-pub loop-k-smaller : goal.loop-k-smaller
-loop-k-smaller c = omega arith
+    let a = c.args in
+    ends a.image.now a.map.now a.facts a.depth a.pc (page_size a.w.page) a.w.i (source_of a.w.s 0 0 a.w.l) a.back c.loop-k.k (omega (arith, c.loop-k-test.false)) c.loop-k.invariant
