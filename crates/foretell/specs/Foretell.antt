@@ -1,10 +1,20 @@
 -- Foretelling (request 2026-07 of document 02): what an admission of an image takes.
-use Rattle.std.specs.Prelude.{List, [], ◌∷◌, ℕ}
+use Rattle.std.specs.Prelude.{List, [], ◌∷◌, ℕ, Result, Ok, Err}
 use Rattle.choice.specs.Choice.{Question, ask, asked}
 use Rattle.emulator.specs.Run.{image_fits}
 use Rattle.transfer.specs.Passes.{table_length, sweep_bound}
-use Rattle.foretell.specs.Foretell.{ForetellAnswer}
-use Rattle.foretell.specs.Foretell.{Refused, Foretold}
+use Rattle.refusal.specs.declared.Refusal.{Refusal}
+use Rattle.foretell.specs.declared.Forecast.{Forecast}
+
+-- What foretelling answers: the table's length and the most sweeps that admission can count; or a refusal at the door.
+pub data ForetellAnswer : Type 0 where
+  Refused : ForetellAnswer
+  Foretold : ℕ → ℕ → ForetellAnswer
+
+-- what the code answers
+abbrev pub foretold_as : Result Forecast Refusal → ForetellAnswer
+foretold_as (Ok forecast) = Foretold forecast.length forecast.bound
+foretold_as (Err refusal) = Refused
 
 -- "That call puts question 11 alone."
 abbrev pub foretell_questions : List ℕ → List Question

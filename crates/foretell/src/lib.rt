@@ -1,29 +1,33 @@
 // Foretelling: what an admission of an image takes, without doing the work.
 #![tactic(auto)]
 
-ghost use Rattle.std.specs.Prelude.{◌≡◌};
-ghost use Rattle.foretell.specs.Foretell.{foretold, foretold_numbers, foretelling};
+ghost use Rattle.std.specs.Prelude.{◌≡◌, IfErr};
+ghost use Rattle.refusal.specs.declared.Refusal.{Refusal};
+ghost use Rattle.foretell.specs.Foretell.{foretold_as, foretold, foretold_numbers, foretelling};
+
+use refusal::Refusal;
 
 // At most so many sweeps change a table, for each word of its image.
 const WORD_SWEEPS: usize = 108;
 
-// What foretelling answers: the table's length and the most sweeps that admission can count; or a refusal at the door.
-#[derive(Clone, Copy)]
-pub enum ForetellAnswer {
-    Refused,
-    Foretold { length: usize, bound: usize },
+// The length of the table that an admission takes, and the most sweeps that it can count.
+#[derive(Clone, Copy, Debug, PartialEq, Eq)]
+pub struct Forecast {
+    pub length: usize,
+    pub bound: usize,
 }
 
 // Of an image: the length of its table, and the bound of its sweeps; or the refusal 11.
-pub fn foretell(image: &[u8]) -> ForetellAnswer
-    ensures { (result ≡ foretold image.now) × (foretold_numbers result ≡ foretelling image.now) }
+pub fn foretell(image: &[u8]) -> Result<Forecast, Refusal>
+    ensures forecast { (foretold_as result ≡ foretold image.now) × (foretold_numbers (foretold_as result) ≡ foretelling image.now) }
+    ensures refusal { IfErr result (λ e. e ≡ Refusal.Image) }
 {
     if !emulator::image_fits(image) {
-        return ForetellAnswer::Refused;
+        return Err(Refusal::Image);
     }
     let words = image.len() / 2;
-    ForetellAnswer::Foretold {
+    Ok(Forecast {
         length: words * facts::WORD_RECORDS,
         bound: words * WORD_SWEEPS,
-    }
+    })
 }

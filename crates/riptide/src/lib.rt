@@ -4,7 +4,7 @@
 ghost use Rattle.std.specs.Prelude.{◌≡◌};
 ghost use Rattle.word.specs.Word.{decoded, encoded};
 ghost use Rattle.map.specs.Map.{counted};
-ghost use Rattle.state.specs.State.{reset_number_of, reset_state};
+ghost use Rattle.state.specs.State.{reset_number, reset_number_of, reset_state};
 ghost use Rattle.emulator.specs.Run.{run_result};
 ghost use Rattle.admission.specs.Admission.{admit_result};
 ghost use Rattle.listing.specs.Listing.{list_result};
@@ -12,9 +12,17 @@ ghost use Rattle.numbers.specs.Words.{read_number, word_from, write_number};
 ghost use Rattle.answers.specs.Numbers.{count_number, run_number};
 ghost use Rattle.answers.specs.Calls.{admit_gives, check_gives, foretell_gives};
 
-use listing::ListAnswer;
-use state::ResetAnswer;
-use word::Encoding;
+use refusal::Refusal;
+
+// 0 where a call has done its work, else the refusal.
+fn done_or(answer: Result<(), Refusal>) -> u64
+    ensures { result ≡ reset_number answer }
+{
+    match answer {
+        Ok(()) => 0,
+        Err(refusal) => u64::from(refusal.number()),
+    }
+}
 
 // opcode × 256 and the word's fields in the order of their bits, at bits 16, 32 and 48; or 22.
 pub fn riptide_read_word(word: u16) -> u64
@@ -28,12 +36,8 @@ pub fn riptide_write_word(op: usize, a: usize, b: usize, c: usize) -> u64
     ensures { result ≡ write_number (encoded (word_from op a b c)) }
 {
     match encoding::encode(numbers::word_from(op, a, b, c)) {
-        Encoding::Bits(w) => {
-            return w as u64 * 256;
-        }
-        Encoding::Refused => {
-            return 22;
-        }
+        Some(w) => u64::from(w) * 256,
+        None => 22,
     }
 }
 
@@ -48,14 +52,7 @@ pub fn riptide_count_sets(map: &[u8]) -> u64
 pub fn riptide_reset(state: &mut [u8]) -> u64
     ensures { (result ≡ reset_number_of state.old) × (state.new ≡ reset_state state.old) }
 {
-    match state::reset(state) {
-        ResetAnswer::Done => {
-            return 0;
-        }
-        ResetAnswer::Refused => {
-            return 14;
-        }
-    }
+    done_or(state::reset(state))
 }
 
 // number + depth × 256 + address × 65,536: 0 for admitted, the refusal 11, 12 or 13, or the finding; and the count of sweeps
@@ -98,8 +95,5 @@ pub fn riptide_run(
 pub fn riptide_list(image: &[u8], page: &mut [u8]) -> u64
     ensures { (result ≡ (list_result image.now page.old).number) × (page.new ≡ (list_result image.now page.old).page) }
 {
-    match listing::list(image, page) {
-        ListAnswer::Listed => return 0,
-        ListAnswer::Refused { number } => return number as u64,
-    }
+    done_or(listing::list(image, page))
 }

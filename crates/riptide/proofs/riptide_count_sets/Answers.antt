@@ -6,7 +6,7 @@ use Rattle.answers.proofs.Fits.{counts_fit}
 use Rattle.riptide.proofs.riptide_count_sets.Goals as goal
 
 pub count_number-requires : goal.count_number-requires
-count_number-requires c = subst⁻¹ CountsFit c.count.ensures.0 (counts_fit c.args.map.now)
+count_number-requires c = subst⁻¹ CountsFit c.count.ensures.counts.0 (counts_fit c.args.map.now)
 
 pub returns : goal.returns
-returns c = c.count_number.ensures ∙ ap count_number c.count.ensures.0
+returns c = c.count_number.ensures ∙ ap count_number c.count.ensures.counts.0
