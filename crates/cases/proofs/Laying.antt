@@ -72,6 +72,12 @@ filled_first {bytes} {before} {new} {n} room e long =
 pub the_bytes : {a b before after : List ℕ} {n : ℕ} → Expanded a before after n → a ≡ b → Expanded b before after n
 the_bytes {before = before} {after = after} {n = n} w e = subst (λ (l : List ℕ). Expanded l before after n) e w
 
+pub same_out : {bytes before out other : List ℕ} {n : ℕ} → other ≡ out → Expanded bytes before out n → Expanded bytes before other n
+same_out {bytes} {before} {out} {other} {n} e w = subst (λ (l : List ℕ). Expanded bytes before l n) (sym e) w
+
+pub as_many : {bytes before out : List ℕ} {n m : ℕ} → n ≡ m → Expanded bytes before out n → Expanded bytes before out m
+as_many {bytes} {before} {out} e w = subst (λ (k : ℕ). Expanded bytes before out k) e w
+
 -- ---- hex
 
 module _ (text : List ℕ) (at : ℕ) {value : ℕ} (e : value ≡ hex_byte_at text at) where
