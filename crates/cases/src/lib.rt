@@ -72,7 +72,6 @@ fn pair(s: &[u8], at: usize) -> Option<u8>
 
 // Bytes of two digits each, until no two come; their count.
 fn hex(s: &[u8], from: usize, out: &mut [u8]) -> usize
-    requires { from ≤ length s.now }
     ensures { Expanded (hex_from s.now from (length out.old)) out.old out.new result }
 {
     for (k, byte) in out.iter_mut().enumerate() {

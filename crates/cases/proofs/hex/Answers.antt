@@ -21,7 +21,7 @@ loop-k-preserved c =
     let s = c.args.s.now in
     let value = c.in-Some.value in
     let left : length at.out - at.k ≡ suc (length (set at.out at.k value) - (at.k + 1)) = rw (length-set at.out at.k value) (omega (arith, c.loop-k-test.true, at.auto.out)) in (
-      omega (arith, c.in-Some.ensures.there),
+      λ h. omega (arith, c.in-Some.ensures.there),
       the_rest
           (stored_one value (the_rest at.invariant.1 (hex_more s (c.args.from + 2 * at.k) c.in-Some.ensures.value left (λ e. omega arith))) (omega (arith, c.loop-k-test.true, at.auto.out)))
           (ap (λ (n : ℕ). hex_from s n (length (set at.out at.k value) - (at.k + 1))) {x = c.args.from + 2 * at.k + 2} {y = c.args.from + 2 * (at.k + 1)} (omega arith)),
