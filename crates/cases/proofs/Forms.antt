@@ -2,7 +2,7 @@
 use mathlib.Core.Path.{◌≡◌}
 use mathlib.Core.List.{List, []}
 use Prim.Native.Nat.{ℕ, ◌+◌, ◌*◌, ◌%◌, min}
-use borrow.Author.Tests.{eq-eqb, ne_eqb}
+use borrow.Author.Tests.{ne_eqb}
 use lib.ListN.{get_or}
 use Rattle.digest.specs.Digest.{generated, in_turn}
 use Rattle.cases.specs.Cases.{place_behind, decimal_at, hex_byte_at, hex_from, valid_words, form_bytes}
@@ -10,38 +10,25 @@ use Rattle.cases.specs.Cases.{place_behind, decimal_at, hex_byte_at, hex_from, v
 module _ (text : List ℕ) (from room : ℕ) {letter first : ℕ} (l : letter ≡ get_or text from 0) (f : first ≡ place_behind text from 58) where
   pub of_hex : letter ≡ 104 → hex_from text first room ≡ form_bytes text from room
   unfolding form_bytes
-  of_hex h = rw (← l, ← f, eq-eqb letter 104 h)
+  of_hex h = rw (← l, ← f, h)
 
-  module _ {second count : ℕ} (s : second ≡ place_behind text first 58) (n : count ≡ decimal_at text second) (not-h : letter ≡ 104 → ⊥) where
+  module _ {second count : ℕ} (s : second ≡ place_behind text first 58) (n : count ≡ decimal_at text second) where
     pub of_lcg : {seed : ℕ} → seed ≡ decimal_at text first → letter ≡ 108 → generated seed (min count room) ≡ form_bytes text from room
     unfolding form_bytes
-    of_lcg e h = rw (← l, ← f, ← s, ← n, ← e, ne_eqb letter 104 not-h, eq-eqb letter 108 h)
+    of_lcg e h = rw (← l, ← f, ← s, ← n, ← e, h)
 
-    module _ (not-l : letter ≡ 108 → ⊥) where
-      pub of_fill : {high low : ℕ} → high ≡ hex_byte_at text first → low ≡ hex_byte_at text (first + 2) → letter ≡ 102
-          → in_turn (high % 256) (low % 256) (min (2 * count) room) ≡ form_bytes text from room
-      unfolding form_bytes
-      of_fill e g h =
-          rw (← l, ← f, ← s, ← n, ← e, ← g, ne_eqb letter 104 not-h, ne_eqb letter 108 not-l, eq-eqb letter 102 h)
+    pub of_fill : {high low : ℕ} → high ≡ hex_byte_at text first % 256 → low ≡ hex_byte_at text (first + 2) % 256 → letter ≡ 102
+        → in_turn high low (min (2 * count) room) ≡ form_bytes text from room
+    unfolding form_bytes
+    of_fill e g h = rw (← l, ← f, ← s, ← n, ← e, ← g, h)
 
-      module _ (not_f : letter ≡ 102 → ⊥) where
-        pub of_valid : {seed : ℕ} → seed ≡ decimal_at text first → letter ≡ 118
-            → valid_words 65536 seed (min (2 * count) room) ≡ form_bytes text from room
-        unfolding form_bytes
-        of_valid e h =
-            rw (
-              ← l,
-              ← f,
-              ← s,
-              ← n,
-              ← e,
-              ne_eqb letter 104 not-h,
-              ne_eqb letter 108 not-l,
-              ne_eqb letter 102 not_f,
-              eq-eqb letter 118 h,
-            )
+    pub of_valid : {seed : ℕ} → seed ≡ decimal_at text first → letter ≡ 118
+        → valid_words 65536 seed (min (2 * count) room) ≡ form_bytes text from room
+    unfolding form_bytes
+    of_valid e h = rw (← l, ← f, ← s, ← n, ← e, h)
 
-        pub of_none : (letter ≡ 118 → ⊥) → [] ≡ form_bytes text from room
-        unfolding form_bytes
-        of_none h =
-            rw (← l, ne_eqb letter 104 not-h, ne_eqb letter 108 not-l, ne_eqb letter 102 not_f, ne_eqb letter 118 h)
+module _ (text : List ℕ) (from room : ℕ) {letter : ℕ} (l : letter ≡ get_or text from 0) where
+  pub of_none : (letter ≡ 104 → ⊥) → (letter ≡ 108 → ⊥) → (letter ≡ 102 → ⊥) → (letter ≡ 118 → ⊥) → [] ≡ form_bytes text from room
+  unfolding form_bytes
+  of_none not-h not-l not_f not_v =
+      rw (← l, ne_eqb letter 104 not-h, ne_eqb letter 108 not-l, ne_eqb letter 102 not_f, ne_eqb letter 118 not_v)

@@ -1,16 +1,13 @@
 -- Bytes on their way to the start of a slice, form by form. Assumes nothing.
 use mathlib.Core.Path.{◌≡◌, refl, sym, ap, ap₂, ◌∙◌, subst}
-use mathlib.Core.Bool.{true, false}
 use mathlib.Core.List.{List, [], ◌∷◌, ◌++◌, append-nil, append_assoc}
-use Prim.Native.Nat.{ℕ, suc, ◌+◌, ◌-◌, ◌*◌, ◌≤◌, ◌<◌}
-use native.Mathlib.Nat.{add-zero}
+use Prim.Native.Nat.{ℕ, suc, ◌+◌, ◌-◌, ◌≤◌, ◌<◌}
 use native.Mathlib.Numerals.{add-one}
 use native.Mathlib.Omega.{arith}
-use borrow.Author.Tests.{le-leb, lt-leb, ne_eqb}
+use borrow.Author.Tests.{ne_eqb}
 use lib.ListN.{length, take, drop, set, length-append, take-append-drop}
-use lib.Seq.{length-take-le, take_at, drop_at, drop-drop, set_split, sets-eq}
+use lib.Seq.{length-take-le, take_at, drop_at, drop-drop, set_split}
 use Rattle.io.proofs.Counting.{prefix_len_of_le}
-use Rattle.word.specs.Word.{is_valid}
 use Rattle.digest.specs.Digest.{next_number, number_byte}
 use Rattle.cases.specs.Cases.{hex_byte_at, hex_from, word_bytes, valid_words}
 use Rattle.cases.specs.Parts.{Expanded}
@@ -59,18 +56,14 @@ all_there {before} {out} {whole} {at} p =
       fits = prefix_len_of_le at out p.room;
     }
 
--- a part at the start filled at once
-pub filled_first : {bytes before new : List ℕ} {n : ℕ} → n ≤ length before → new ≡ bytes → length bytes ≡ n
-    → Expanded bytes before (new ++ drop n before) n
-filled_first {bytes} {before} {new} {n} room e long =
-    record {
-      all = sym long;
-      placed = ap (λ (l : List ℕ). l ++ drop n before) e;
-      fits = prefix_len_of_le n (new ++ drop n before) (omega (arith, length-append new (drop n before), ap length e, long));
-    }
-
 pub the_bytes : {a b before after : List ℕ} {n : ℕ} → Expanded a before after n → a ≡ b → Expanded b before after n
 the_bytes {before = before} {after = after} {n = n} w e = subst (λ (l : List ℕ). Expanded l before after n) e w
+
+pub same_out : {bytes before out other : List ℕ} {n : ℕ} → other ≡ out → Expanded bytes before out n → Expanded bytes before other n
+same_out {bytes} {before} {out} {other} {n} e w = subst (λ (l : List ℕ). Expanded bytes before l n) (sym e) w
+
+pub as_many : {bytes before out : List ℕ} {n m : ℕ} → n ≡ m → Expanded bytes before out n → Expanded bytes before out m
+as_many {bytes} {before} {out} e w = subst (λ (k : ℕ). Expanded bytes before out k) e w
 
 -- ---- hex
 
@@ -89,34 +82,9 @@ hex_full text at f = rw f
 
 -- ---- valid words
 
-module _ (room high low : ℕ) where
-  pub no_room : room < 2 → word_bytes room high low ≡ []
-  unfolding word_bytes
-  no_room h = rw (lt-leb 2 room h)
-
-  pub not_valid : 2 ≤ room → is_valid (high * 256 + low) ≡ false → word_bytes room high low ≡ []
-  unfolding word_bytes
-  not_valid h v = rw (le-leb 2 room h, v)
-
-  pub its_bytes : 2 ≤ room → is_valid (high * 256 + low) ≡ true → word_bytes room high low ≡ high ∷ low ∷ []
-  unfolding word_bytes
-  its_bytes h v = rw (le-leb 2 room h, v)
-
 -- what putting a word does, by the bytes that it has
 abbrev pub Puts : List ℕ → ℕ → ℕ → List ℕ → List ℕ → ℕ → Type 0
 Puts out at room word after r = (r ≡ at + length word) × (r ≤ room) × (after ≡ take at out ++ (word ++ drop r out))
-
-module _ (out : List ℕ) (at room : ℕ) {word : List ℕ} where
-  pub puts_none : at ≤ room → word ≡ [] → Puts out at room word out at
-  puts_none h e = (rw e (sym (add-zero at)), h, rw e (sym (take-append-drop at out)))
-
-  pub puts_two : (high low : ℕ) → at + 2 ≤ room → room ≤ length out → word ≡ high ∷ low ∷ []
-      → Puts out at room word (set (set out at high) (at + 1) low) (at + 2)
-  puts_two high low h g e = (
-    rw e,
-    h,
-    rw (e, add-one) (sets-eq (high ∷ low ∷ []) out at (omega arith) ∙ append_assoc (take at out) (high ∷ low ∷ []) (drop (at + 2) out)),
-  )
 
 module _ (room left x : ℕ) {y z a b : ℕ} (f : y ≡ next_number x) (g : z ≡ next_number y) (h : a ≡ number_byte y) (k : b ≡ number_byte z) where
   valid_more : {m : ℕ} → left ≡ suc m → valid_words left x room ≡ word_bytes room a b ++ valid_words m z (room - length (word_bytes room a b))

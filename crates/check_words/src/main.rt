@@ -2,6 +2,7 @@
 // the count of valid words and the digest of eight bytes for each word; then how many words came back equal.
 #![tactic(auto)]
 
+use harness::Tally;
 use word::{Encoding, Word};
 
 // A case's number and its fields in the order of the word, 0 where there is none.
@@ -19,13 +20,6 @@ struct Written {
     good: u8,
     high: u8,
     low: u8,
-}
-
-#[derive(Clone, Copy)]
-struct Tally {
-    valid: usize,
-    equal: usize,
-    sum: u64,
 }
 
 fn entry(kind: u8, a: usize, b: usize, c: usize) -> Listed {
@@ -51,14 +45,11 @@ fn fields_of(w: Word) -> Listed {
     }
 }
 
-fn bytes_of(e: Encoding) -> Written {
+fn written_of(e: Encoding) -> Written {
     match e {
         Encoding::Bits(bits) => {
-            return Written {
-                good: 1,
-                high: (bits / 256) as u8,
-                low: (bits % 256) as u8,
-            };
+            let [high, low] = bits.to_be_bytes();
+            return Written { good: 1, high, low };
         }
         Encoding::Refused => return Written {
             good: 0,
@@ -68,59 +59,40 @@ fn bytes_of(e: Encoding) -> Written {
     }
 }
 
-fn came_back(e: Encoding, bits: u16) -> usize {
+fn came_back(e: Encoding, bits: u16) -> bool {
     match e {
-        Encoding::Bits(again) => {
-            if again == bits {
-                return 1;
-            }
-            return 0;
-        }
-        Encoding::Refused => return 0,
+        Encoding::Bits(again) => return again == bits,
+        Encoding::Refused => return false,
     }
 }
 
-fn low(x: usize) -> u8 {
-    (x % 256) as u8
-}
-
-// The digest goes on over the eight bytes of a word.
-fn digested(sum: u64, l: Listed, w: Written) -> u64 {
-    let bytes = [
+// The eight bytes of a word for the digest.
+fn bytes_of(l: Listed, w: Written) -> [u8; 8] {
+    let c = l.c.to_le_bytes();
+    [
         l.kind,
-        low(l.a),
-        low(l.b),
-        low(l.c),
-        low(l.c / 256),
+        l.a.to_le_bytes()[0],
+        l.b.to_le_bytes()[0],
+        c[0],
+        c[1],
         w.good,
         w.high,
         w.low,
-    ];
-    digest::add(sum, &bytes)
-}
-
-fn taken(t: Tally, bits: u16) -> Tally {
-    let w = word::decode(bits);
-    let l = fields_of(w);
-    let e = encoding::encode(w);
-    let kind = l.kind;
-    let valid = if kind == 13 { 0 } else { 1 };
-    Tally {
-        valid: std::num::wrapping_add_usize(t.valid, valid),
-        equal: std::num::wrapping_add_usize(t.equal, came_back(e, bits)),
-        sum: digested(t.sum, l, bytes_of(e)),
-    }
+    ]
 }
 
 // Reads the words from first to last.
 fn read(first: u16, last: u16) -> Tally {
-    let mut t = Tally {
-        valid: 0,
-        equal: 0,
-        sum: digest::none(),
-    };
+    let mut t = Tally::none();
     for bits in first..=last {
-        t = taken(t, bits);
+        let w = word::decode(bits);
+        let l = fields_of(w);
+        let e = encoding::encode(w);
+        t = t.with(
+            l.kind != 13,
+            came_back(e, bits),
+            &bytes_of(l, written_of(e)),
+        );
     }
     t
 }

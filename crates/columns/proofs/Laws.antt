@@ -1,21 +1,21 @@
 -- Layouts and lines: widths, and the columns that the code puts one behind another. Assumes nothing.
-use mathlib.Core.Path.{◌≡◌, refl, sym, ap, subst, ◌∙◌}
+use mathlib.Core.Path.{◌≡◌, refl, sym, ap, ap₂, ◌∙◌}
 use mathlib.Core.Bool.{Bool, true, false}
 use mathlib.Core.List.{List, [], ◌∷◌, ◌++◌, append_assoc, append-nil}
 use Prim.Native.Nat.{ℕ, zero, suc, ◌+◌, ◌-◌, ◌≤◌, ◌<◌}
-use native.Mathlib.Nat.{le_of_eq}
 use native.Mathlib.Numerals.{add-one}
 use native.Mathlib.Omega.{arith}
 use borrow.Author.Tests.{ltb-true, ltb-false}
 use lib.Dec.{ltb}
-use lib.ListN.{length, take, drop, get_or, length-append}
-use lib.Seq.{take-append_seam, drop-append-add}
+use lib.ListN.{length, take, drop, get_or, length-append, drop_of_length-le}
+use lib.Seq.{drop-cons, take-append_seam, drop-append-add}
 use Rattle.text.specs.Text.{space_text, end_text, octal, spaces, filled, joined}
 use Rattle.text.specs.Parts.{Written}
 use Rattle.text.proofs.Writing.{behind, the_same, length_octal}
-use Rattle.mnemonics.specs.declared.Layout.{Layout}
-use Rattle.mnemonics.specs.Layout.{mnemonic_of, Operand, operand, layout_of, operand_text, operands_text, layout_width}
-use Rattle.mnemonics.specs.Parts.{operands_below}
+use Rattle.std.specs.Prelude.{Option, Some, None}
+use Rattle.mnemonics.specs.declared.Field.{Field}
+use Rattle.mnemonics.specs.Layout.{mnemonic_of, Operand, layout_of, operand_text, operands_text, layout_width}
+use Rattle.mnemonics.specs.Parts.{operands_in}
 use Rattle.mnemonics.proofs.Laws.{operands_long, layout_fits, mnemonic_long, operands_filled}
 use Rattle.columns.specs.Line.{line_texts, page_line, line_length}
 use Rattle.columns.specs.Parts.{spaced_text, word_text}
@@ -53,42 +53,36 @@ spaced_long (o ∷ rest) = omega (arith, ap length (spaced_first o rest), operan
 pub layout_room : (w : ℕ) {layout : List Operand} → layout ≡ layout_of w → length (spaced_text layout) ≤ 14
 layout_room w e = omega (arith, ap (λ (l : List Operand). length (spaced_text l)) e, spaced_long (layout_of w), layout_fits w)
 
--- one operand more
-spaced_more : (layout : List Operand) (o : Operand) → spaced_text (layout ++ (o ∷ [])) ≡ spaced_text layout ++ (space_text ++ operand_text o)
+-- the next of the fields of a layout, behind a text `t` that is there
+module _ (fields : List (Option Field)) (k : ℕ) (below : k < length fields) (t : List ℕ) {whole : List ℕ} (there : t ++ spaced_text (operands_in (drop k fields)) ≡ whole) where
+  here : {o : Option Field} → get_or fields k None ≡ o → t ++ spaced_text (operands_in (o ∷ drop (k + 1) fields)) ≡ whole
+  here e =
+      sym (ap (λ (l : List (Option Field)). t ++ spaced_text (operands_in l)) (drop-cons fields k None below ∙ ap₂ ◌∷◌ e (ap (λ (n : ℕ). drop n fields) (sym (add-one k))))) ∙ there
+
+  pub field_none : get_or fields k None ≡ None → t ++ spaced_text (operands_in (drop (k + 1) fields)) ≡ whole
+  field_none e = here e
+
+  module _ {f : Field} (e : get_or fields k None ≡ Some f) where
+    pub field_more : (t ++ (space_text ++ octal f.digits f.value)) ++ spaced_text (operands_in (drop (k + 1) fields)) ≡ whole
+    unfolding spaced_text
+    field_more = append_assoc t (space_text ++ octal f.digits f.value) (spaced_text (operands_in (drop (k + 1) fields))) ∙ here e
+
+    -- there is room for it where there is room for all
+    pub field_fits : length t + (1 + f.digits) ≤ length whole
+    field_fits =
+        omega (
+          arith,
+          ap length field_more,
+          length-append (t ++ (space_text ++ octal f.digits f.value)) (spaced_text (operands_in (drop (k + 1) fields))),
+          length-append t (space_text ++ octal f.digits f.value),
+          length_octal f.digits f.value,
+        )
+
+-- no field is left
+pub field_last : (fields : List (Option Field)) {k : ℕ} {t whole : List ℕ} → length fields ≤ k → t ++ spaced_text (operands_in (drop k fields)) ≡ whole → t ≡ whole
 unfolding spaced_text
-spaced_more [] o = ap (λ (text : List ℕ). 32 ∷ text) (append-nil (operand_text o))
-spaced_more (p ∷ rest) o =
-    ap (λ (text : List ℕ). 32 ∷ operand_text p ++ text) (spaced_more rest o)
-    ∙ ap (λ (text : List ℕ). 32 ∷ text) (sym (append_assoc (operand_text p) (spaced_text rest) (space_text ++ operand_text o)))
-
-module _ (l : Layout) where
-  pub operand_more : (k : ℕ)
-      → spaced_text (operands_below l k) ++ (space_text ++ octal (get_or l.digits k 0) (get_or l.values k 0)) ≡ spaced_text (operands_below l (k + 1))
-  unfolding operands_below
-  operand_more k =
-      sym (spaced_more (operands_below l k) (operand (get_or l.values k 0) (get_or l.digits k 0)))
-      ∙ ap (λ (n : ℕ). spaced_text (operands_below l n)) (sym (add-one k))
-
-  -- an operand takes a space and its digits
-  more_long : (k : ℕ) → length (spaced_text (operands_below l (suc k))) ≡ length (spaced_text (operands_below l k)) + (1 + get_or l.digits k 0)
-  more_long k =
-      let text = octal (get_or l.digits k 0) (get_or l.values k 0) in
-      ap (λ (n : ℕ). length (spaced_text (operands_below l n))) (sym (add-one k))
-      ∙ ap length (sym (operand_more k))
-      ∙ length-append (spaced_text (operands_below l k)) (space_text ++ text)
-      ∙ omega (arith, length_octal (get_or l.digits k 0) (get_or l.values k 0))
-
-  -- there is room for the next operand where there is room for all
-  pub next_fits : (k n : ℕ) → k < n
-      → length (spaced_text (operands_below l k)) + (1 + get_or l.digits k 0) ≤ length (spaced_text (operands_below l n))
-  next_fits k zero h = absurd (omega arith)
-  next_fits k (suc n) h =
-      below_or_last k n h
-      (λ below. omega (arith, next_fits k n below, more_long n))
-      (λ last. subst Room last (le_of_eq (sym (more_long n))))
-    where
-      Room : ℕ → Type 0
-      Room m = length (spaced_text (operands_below l m)) + (1 + get_or l.digits m 0) ≤ length (spaced_text (operands_below l (suc n)))
+field_last fields {t = t} over there =
+    sym (append-nil t) ∙ sym (ap (λ (l : List (Option Field)). t ++ spaced_text (operands_in l)) (drop_of_length-le fields over)) ∙ there
 
 -- ---- the columns of a line
 

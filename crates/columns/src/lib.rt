@@ -9,7 +9,7 @@ ghost use Rattle.mnemonics.specs.Parts.{operands_in};
 ghost use Rattle.columns.specs.Line.{page_line, line_length};
 ghost use Rattle.columns.specs.Parts.{spaced_text, word_text};
 
-use mnemonics::Layout;
+use mnemonics::Field;
 
 // Columns of the mnemonic and the operands, with the space between them.
 const COLUMNS: usize = 18;
@@ -24,15 +24,15 @@ fn put_number(out: &mut [u8], at: usize, value: usize, digits: usize) -> usize
 }
 
 // The operands of any layout, each behind a space.
-fn put_operands(out: &mut [u8], at: usize, layout: Layout) -> usize
-    requires { (layout.count ≤ 3) × (at + length (spaced_text (operands_in layout)) ≤ length out.old) × (length (spaced_text (operands_in layout)) ≤ 14) }
+fn put_operands(out: &mut [u8], at: usize, layout: [Option<Field>; 3]) -> usize
+    requires { (at + length (spaced_text (operands_in layout)) ≤ length out.old) × (length (spaced_text (operands_in layout)) ≤ 14) }
     ensures { Written out.old at (spaced_text (operands_in layout)) out.new result }
 {
     let mut b = at;
-    let mut k = 0;
-    while k < layout.count {
-        b = put_number(out, b, layout.values[k], layout.digits[k]);
-        k += 1;
+    for field in &layout {
+        if let Some(f) = field {
+            b = put_number(out, b, f.value, f.digits);
+        }
     }
     b
 }
@@ -53,7 +53,7 @@ pub fn put_line(out: &mut [u8], at: usize, address: usize, high: u8, low: u8) ->
     requires { at + line_length ≤ length out.old }
     ensures { Written out.old at (page_line address (high * 256 + low)) out.new result }
 {
-    let w = machine::wide(high) * 256 + machine::wide(low);
+    let w = usize::from(high) * 256 + usize::from(low);
     let b = text::put_octal(out, at, address, 5);
     let c = put_number(out, b, w, 6);
     let d = text::put(out, c, b" ");

@@ -1,11 +1,13 @@
 -- A digest on its way, and a slice that is being filled: what is there and what is left make the whole. Assumes nothing.
 use mathlib.Core.Path.{◌≡◌, refl, sym, ap, ◌∙◌}
 use mathlib.Core.List.{List, [], ◌∷◌, ◌++◌, append-nil, append_assoc}
-use Prim.Native.Nat.{ℕ, zero, suc, ◌+◌, ◌-◌, ◌≤◌, ◌<◌}
+use Prim.Native.Nat.{ℕ, zero, suc, ◌+◌, ◌-◌, ◌%◌, ◌≤◌, ◌<◌}
 use native.Mathlib.Numerals.{add-one}
 use native.Mathlib.Omega.{arith}
 use lib.ListN.{length, get_or, take, drop, set, length-set, drop_of_length-le}
 use lib.Seq.{drop-cons, take_all, take-suc-set}
+use Rattle.std.proofs.Math.Dec.{eqb-suc-zero}
+use Rattle.std.specs.Prelude.{◌==◌, cond}
 use Rattle.digest.specs.Digest.{digest_byte, digest_of, next_number, number_byte, generated, in_turn}
 
 -- ---- a digest
@@ -52,16 +54,6 @@ module _ (out : List ℕ) (i : ℕ) {whole : List ℕ} where
     unfolding generated
     generated_end over h = filled_end over (rw (left_none out i over) at h)
 
-  module _ (a b : ℕ) where
-    pub in_turn_turn : i < length out → take i out ++ in_turn a b (length out - i) ≡ whole
-        → take (i + 1) (set out i a) ++ in_turn b a (length (set out i a) - (i + 1)) ≡ whole
-    unfolding in_turn
-    in_turn_turn below h = filled_turn a _ below (rw (left_more out i a below) at h)
-
-    pub in_turn_end : length out ≤ i → take i out ++ in_turn a b (length out - i) ≡ whole → out ≡ whole
-    unfolding in_turn
-    in_turn_end over h = filled_end over (rw (left_none out i over) at h)
-
 -- ---- how many bytes there are
 
 pub length_generated : (x n : ℕ) → length (generated x n) ≡ n
@@ -73,3 +65,20 @@ pub length_in_turn : (a b n : ℕ) → length (in_turn a b n) ≡ n
 unfolding in_turn
 length_in_turn a b zero = refl
 length_in_turn a b (suc n) = ap suc (length_in_turn b a n)
+
+-- ---- bytes in turn, by their places
+
+abbrev pub byte_in_turn : ℕ → ℕ → ℕ → ℕ
+byte_in_turn a b k = cond (k % 2 == 0) a b
+
+by_parity : (a b m n : ℕ) → m < 2 → n < 2 → m + n ≡ 1 → cond (m == 0) b a ≡ cond (n == 0) a b
+by_parity a b zero zero f g h = absurd (omega arith)
+by_parity a b zero (suc n) f g h = rw (eqb-suc-zero n)
+by_parity a b (suc m) zero f g h = rw (eqb-suc-zero m)
+by_parity a b (suc m) (suc n) f g h = absurd (omega arith)
+
+pub in_turn_at : (a b n k : ℕ) → k < n → get_or (in_turn a b n) k 0 ≡ byte_in_turn a b k
+unfolding in_turn
+in_turn_at a b zero k h = absurd (omega arith)
+in_turn_at a b (suc n) zero h = refl
+in_turn_at a b (suc n) (suc k) h = in_turn_at b a n k (omega arith) ∙ by_parity a b (k % 2) (suc k % 2) (omega arith) (omega arith) (omega arith)

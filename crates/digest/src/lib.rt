@@ -12,25 +12,13 @@ pub fn none() -> u64
     14695981039346656037
 }
 
-// The product with FNV's prime, 2^40 + 435, kept to 64 bits.
-fn times_prime(h: u64) -> u64
-    ensures { result ≡ h * 1099511628211 % 18446744073709551616 }
-{
-    let low = h % 4294967296 * 435;
-    let high = h / 4294967296 * 435 + h % 16777216 * 256 + low / 4294967296;
-    high % 4294967296 * 4294967296 + low % 4294967296
-}
-
-fn wide(x: u8) -> u64
-    ensures { result ≡ x }
-{
-    x as u64
-}
+// FNV's prime, 2^40 + 435.
+const PRIME: u64 = 1099511628211;
 
 fn add_byte(h: u64, byte: u8) -> u64
     ensures { result ≡ digest_byte h byte }
 {
-    times_prime(h ^ wide(byte))
+    (h ^ u64::from(byte)).wrapping_mul(PRIME)
 }
 
 // The digest h gone on over the bytes.
@@ -38,10 +26,8 @@ pub fn add(h: u64, bytes: &[u8]) -> u64
     ensures { result ≡ digest_of h bytes.now }
 {
     let mut sum = h;
-    let mut i = 0;
-    while i < bytes.len() {
-        sum = add_byte(sum, bytes[i]);
-        i += 1;
+    for byte in bytes {
+        sum = add_byte(sum, *byte);
     }
     sum
 }
@@ -67,11 +53,9 @@ pub fn generate(seed: u64, out: &mut [u8])
     ensures { out.new ≡ generated seed (length out.old) }
 {
     let mut x = seed;
-    let mut i = 0;
-    while i < out.len() {
+    for byte in out {
         x = next(x);
-        out[i] = byte_of(x);
-        i += 1;
+        *byte = byte_of(x);
     }
 }
 
@@ -79,14 +63,7 @@ pub fn generate(seed: u64, out: &mut [u8])
 pub fn repeat(high: u8, low: u8, out: &mut [u8])
     ensures { out.new ≡ in_turn high low (length out.old) }
 {
-    let mut a = high;
-    let mut b = low;
-    let mut i = 0;
-    while i < out.len() {
-        out[i] = a;
-        let c = a;
-        a = b;
-        b = c;
-        i += 1;
+    for (i, byte) in out.iter_mut().enumerate() {
+        *byte = if i % 2 == 0 { high } else { low };
     }
 }

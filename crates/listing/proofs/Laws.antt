@@ -1,13 +1,16 @@
 -- The lines of a page, the ways out of listing, and what the program prints. Assumes nothing.
-use mathlib.Core.Path.{◌≡◌, refl, sym, ap, ◌∙◌}
+use mathlib.Core.Path.{◌≡◌, refl, sym, ap, ap₂, ◌∙◌}
 use mathlib.Core.Bool.{true, false}
 use mathlib.Core.List.{List, ◌++◌}
-use Prim.Native.Nat.{ℕ, zero, suc, ◌+◌, ◌*◌, ◌≤◌}
+use Prim.Native.Nat.{ℕ, zero, suc, ◌+◌, ◌*◌, ◌≤◌, ◌<◌}
+use native.Mathlib.Nat.{mul-suc}
 use native.Mathlib.Numerals.{add-one}
 use native.Mathlib.Omega.{arith}
 use borrow.Author.Tests.{eq-eqb, ne_eqb}
-use lib.ListN.{length, take, drop, length-append}
-use lib.Seq.{length-take-le, take_all, take_at, drop_at}
+use lib.ListN.{length, get_or, take, drop, length-append}
+use lib.Seq.{drop-drop, length-take-le, take_all, take_at, drop_at}
+use Rattle.std.proofs.lemmas.List.{get_or-take, get_or-drop}
+use Rattle.std.specs.Simd.{first_chunks}
 use Rattle.machine.specs.Step.{word_count, word_at}
 use Rattle.emulator.specs.Run.{image_fits}
 use Rattle.emulator.proofs.Door.{image_words}
@@ -15,7 +18,7 @@ use Rattle.text.specs.Text.{end_text, door_line}
 use Rattle.text.specs.Parts.{Written}
 use Rattle.columns.specs.Line.{page_line, line_length}
 use Rattle.columns.proofs.Laws.{line_long}
-use Rattle.listing.specs.declared.ListAnswer.TheVariants.{Listed, Refused}
+use Rattle.listing.specs.Answer.{Listed, Refused}
 use Rattle.listing.specs.Listing.{lines_below, page_of, page_yielded, list_result, printed_of}
 
 -- ---- the lines of a page
@@ -28,13 +31,13 @@ module _ (image : List ℕ) where
       length-append (lines_below image n) (page_line n (word_at image n)) ∙ omega (arith, lines_long n, line_long n (word_at image n))
 
   -- one line more
-  pub line_more : (a : ℕ) {page last : List ℕ} {r : ℕ} → take (line_length * a) page ≡ lines_below image a
-      → Written page (line_length * a) (page_line a (word_at image a)) last r → take (line_length * (a + 1)) last ≡ lines_below image (a + 1)
+  pub line_more : (a : ℕ) {w : ℕ} {page last : List ℕ} {r : ℕ} → take (line_length * a) page ≡ lines_below image a
+      → w ≡ word_at image a → Written page (line_length * a) (page_line a w) last r → take (line_length * (a + 1)) last ≡ lines_below image (a + 1)
   unfolding lines_below
-  line_more a {last = last} {r = r} e w =
-      ap (λ (n : ℕ). take n last) {x = line_length * (a + 1)} {y = r} (omega (arith, w.place, line_long a (word_at image a)))
-      ∙ w.line
-      ∙ ap (λ (text : List ℕ). text ++ page_line a (word_at image a)) e
+  line_more a {w = w} {last = last} {r = r} e f written =
+      ap (λ (n : ℕ). take n last) {x = line_length * (a + 1)} {y = r} (omega (arith, written.place, line_long a w))
+      ∙ written.line
+      ∙ ap₂ (λ (text : List ℕ) (w : ℕ). text ++ page_line a w) e f
       ∙ ap (lines_below image) (sym (add-one a))
 
   -- all lines
@@ -42,6 +45,28 @@ module _ (image : List ℕ) where
       → length page ≡ line_length * word_count image → page ≡ page_of image
   lines_all a {page} e f g =
       sym (take_all (line_length * a) page (omega (arith, f, g))) ∙ e ∙ ap (lines_below image) f
+
+-- ---- the words of an image, two bytes each
+
+chunk_at : (n m k : ℕ) (xs : List ℕ) (d : List ℕ) → k < m → get_or (first_chunks n m xs) k d ≡ take n (drop (n * k) xs)
+chunk_at n zero k xs d below = absurd (omega arith)
+chunk_at n (suc m) zero xs d below = ap (λ (i : ℕ). take n (drop i xs)) {x = 0} {y = n * 0} (omega arith)
+chunk_at n (suc m) (suc k) xs d below =
+    chunk_at n m k (drop n xs) d (omega arith)
+    ∙ ap (take n) (drop-drop (n * k) n xs)
+    ∙ ap (λ (i : ℕ). take n (drop i xs)) {x = n + n * k} {y = n * suc k} (omega (arith, mul-suc n k))
+
+byte_of_chunk : (m k i : ℕ) (xs : List ℕ) (d : List ℕ) → k < m → i < 2 → get_or (get_or (first_chunks 2 m xs) k d) i 0 ≡ get_or xs (2 * k + i) 0
+byte_of_chunk m k i xs d below small =
+    ap (λ (l : List ℕ). get_or l i 0) (chunk_at 2 m k xs d below) ∙ get_or-take 2 (drop (2 * k) xs) i 0 small ∙ get_or-drop (2 * k) xs i 0
+
+pub word_of_chunk : (image : List ℕ) {words : List (List ℕ)} (a : ℕ) (d : List ℕ) → words ≡ first_chunks 2 (word_count image) image → a < word_count image
+    → get_or (get_or words a d) 0 0 * 256 + get_or (get_or words a d) 1 0 ≡ word_at image a
+word_of_chunk image a d e below =
+    rw e
+    (ap₂ (λ (high low : ℕ). high * 256 + low)
+    (byte_of_chunk (word_count image) a 0 image d below (omega arith) ∙ ap (λ (i : ℕ). get_or image i 0) {x = 2 * a + 0} {y = 2 * a} (omega arith))
+    (byte_of_chunk (word_count image) a 1 image d below (omega arith)))
 
 -- ---- the door
 

@@ -5,8 +5,7 @@ use Rattle.machine.specs.Step.{word_count, word_at}
 use Rattle.emulator.specs.Run.{image_fits}
 use Rattle.text.specs.Text.{end_text, door_line}
 use Rattle.columns.specs.Line.{page_line, line_length}
-use Rattle.listing.specs.declared.ListAnswer.{ListAnswer}
-use Rattle.listing.specs.declared.ListAnswer.TheVariants.{Listed, Refused}
+use Rattle.listing.specs.Answer.{ListAnswer, Listed, Refused}
 
 -- "Each word gives one line": those of the addresses below n
 unfoldable pub lines_below : List ℕ → ℕ → List ℕ

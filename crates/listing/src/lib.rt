@@ -4,42 +4,37 @@
 ghost use Rattle.std.specs.Prelude.{◌≡◌, ◌*◌, ◌≤◌, length, take, drop};
 ghost use Rattle.machine.specs.Step.{word_count};
 ghost use Rattle.columns.specs.Line.{line_length};
+ghost use Rattle.listing.specs.Answer.{answer_of};
 ghost use Rattle.listing.specs.Listing.{page_of, page_yielded, list_result, printed_of};
+
+use refusal::Refusal;
 
 // Bytes of a line, its line feed included.
 const LINE: usize = 32;
-
-// What listing answers: done, or a refusal at the door.
-#[derive(Clone, Copy)]
-pub enum ListAnswer {
-    Listed,
-    Refused { number: usize },
-}
 
 // The lines of all words.
 fn lines(image: &[u8], page: &mut [u8])
     requires { length page.old ≡ line_length * word_count image.now }
     ensures { page.new ≡ page_of image.now }
 {
-    let mut a = 0;
-    while a < image.len() / 2 {
-        columns::put_line(page, LINE * a, a, image[2 * a], image[2 * a + 1]);
-        a += 1;
+    let (words, _) = image.as_chunks::<2>();
+    for (a, word) in words.iter().enumerate() {
+        columns::put_line(page, LINE * a, a, word[0], word[1]);
     }
 }
 
 // Writes the listing of an image into a page of 32 bytes for each word; or refuses, 11 or 41, and then no byte changes.
-pub fn list(image: &[u8], page: &mut [u8]) -> ListAnswer
-    ensures { page_yielded result page.new ≡ list_result image.now page.old }
+pub fn list(image: &[u8], page: &mut [u8]) -> Result<(), Refusal>
+    ensures { page_yielded (answer_of result) page.new ≡ list_result image.now page.old }
 {
     if !emulator::image_fits(image) {
-        return ListAnswer::Refused { number: 11 };
+        return Err(Refusal::Image);
     }
     if page.len() != LINE * (image.len() / 2) {
-        return ListAnswer::Refused { number: 41 };
+        return Err(Refusal::Page);
     }
     lines(image, page);
-    ListAnswer::Listed
+    Ok(())
 }
 
 // What the program `list` prints for its input; its length.

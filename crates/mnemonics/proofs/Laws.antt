@@ -1,4 +1,4 @@
--- The mnemonic and the layout of a word: test by test, and how wide they are. Assumes nothing.
+-- The mnemonic and the layout of a word: how wide they are. Assumes nothing.
 use mathlib.Core.Path.{◌≡◌, refl, sym, ◌∙◌}
 use mathlib.Core.Bool.{Bool, true, false, ◌&&◌, ◌||◌}
 use mathlib.Core.List.{List, [], ◌∷◌, ◌++◌}
@@ -13,47 +13,7 @@ use Rattle.text.specs.Text.{space_text, filled}
 use Rattle.text.proofs.Writing.{length_octal, length_filled}
 use Rattle.mnemonics.specs.Layout.{opcode_names, call_text, ret_text, invalid_text, is_call_word, is_ret_word, mnemonic_of, Operand, three_fields, two_fields, one_field, layout_of, operand_text, operands_text, layout_width, Shown, none, also}
 
--- ---- the mnemonic and the layout of a word, test by test
-
-module _ (w : ℕ) where
-  pub name_invalid : is_valid w ≡ false → invalid_text ≡ mnemonic_of w
-  unfolding mnemonic_of
-  name_invalid v = rw v
-
-  pub layout_invalid : is_valid w ≡ false → [] ≡ layout_of w
-  unfolding layout_of
-  layout_invalid v = rw v
-
-  module _ (valid : is_valid w ≡ true) where
-    pub name_call : is_call_word w ≡ true → call_text ≡ mnemonic_of w
-    unfolding mnemonic_of
-    name_call c = rw (valid, c)
-
-    pub name_ret : is_call_word w ≡ false → is_ret_word w ≡ true → ret_text ≡ mnemonic_of w
-    unfolding mnemonic_of
-    name_ret c r = rw (valid, c, r)
-
-    pub name_other : is_call_word w ≡ false → is_ret_word w ≡ false → get_or opcode_names (opcode_of w) [] ≡ mnemonic_of w
-    unfolding mnemonic_of
-    name_other c r = rw (valid, c, r)
-
-    pub layout_jmp : opcode_of w ≡ 7 → one_field (bits3to15 w) 5 ≡ layout_of w
-    unfolding layout_of
-    layout_jmp e = rw (valid, eq-eqb (opcode_of w) 7 e)
-
-    module _ (other : opcode_of w ≡ 7 → ⊥) {bank : Bool} (b : bank ≡ is_bank (bits3to7 w)) where
-      pub layout_three : (ltb (opcode_of w) 4 || bank) ≡ true → three_fields (bits3to7 w) (bits8to10 w) (bits11to15 w) ≡ layout_of w
-      unfolding layout_of
-      layout_three t = rw (valid, ne_eqb (opcode_of w) 7 other, sym b, t)
-
-      module _ (narrow : (ltb (opcode_of w) 4 || bank) ≡ false) where
-        pub layout_low : (is_call_word w || is_ret_word w) ≡ true → one_field (bits8to15 w) 3 ≡ layout_of w
-        unfolding layout_of
-        layout_low t = rw (valid, ne_eqb (opcode_of w) 7 other, sym b, narrow, t)
-
-        pub layout_two : (is_call_word w || is_ret_word w) ≡ false → two_fields (bits3to7 w) (bits8to15 w) ≡ layout_of w
-        unfolding layout_of
-        layout_two t = rw (valid, ne_eqb (opcode_of w) 7 other, sym b, narrow, t)
+-- ---- the layouts
 
 -- what holds of the four layouts, and of none, holds of every word's
 layout_each : (P : List Operand → Type 0) (w : ℕ) → P (one_field (bits3to15 w) 5) → P (three_fields (bits3to7 w) (bits8to10 w) (bits11to15 w))

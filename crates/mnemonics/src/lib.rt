@@ -1,28 +1,23 @@
 // What a word shows in a listing: its mnemonic, and the layout of its operands.
 #![tactic(auto)]
 
-ghost use Rattle.std.specs.Prelude.{◌≡◌, [], ◌≤◌, ◌<◌, get_or};
+ghost use Rattle.std.specs.Prelude.{◌≡◌, [], ◌<◌, get_or, Some};
 ghost use Rattle.word.specs.Word.{is_valid};
 ghost use Rattle.text.specs.Text.{filled};
 ghost use Rattle.mnemonics.specs.Layout.{opcode_names, is_nzt_of, mnemonic_of, layout_of};
 ghost use Rattle.mnemonics.specs.Parts.{operands_in};
 
-// A layout: each operand's value, and the octal digits that it takes.
+// An operand: its value, and the octal digits that it takes.
 #[derive(Clone, Copy)]
-pub struct Layout {
-    pub count: usize,
-    pub values: [usize; 3],
-    pub digits: [usize; 3],
+pub struct Field {
+    pub value: usize,
+    pub digits: usize,
 }
 
-fn laid_out(count: usize, values: [usize; 3], digits: [usize; 3]) -> Layout
-    ensures { result ≡ record { count = count; values = values; digits = digits } }
+fn shown(value: usize, digits: usize) -> Option<Field>
+    ensures { result ≡ Some (record { value = value; digits = digits }) }
 {
-    Layout {
-        count: count,
-        values: values,
-        digits: digits,
-    }
+    Some(Field { value, digits })
 }
 
 // S of CALL and of RET.
@@ -34,29 +29,30 @@ const RET: usize = 15;
 fn is_nzt_of(w: usize, s: usize) -> bool
     ensures { result ≡ is_nzt_of s w }
 {
-    (w / 8192 == 5) & (w / 256 % 32 == s)
+    w / 8192 == 5 && w / 256 % 32 == s
 }
 
 // The operands of a word, none if it is invalid.
-pub fn operands(w: usize, valid: bool) -> Layout
+#[tactic(auto, unfolding(crate::specs::Layout::layout_of))]
+pub fn operands(w: usize, valid: bool) -> [Option<Field>; 3]
     requires { valid ≡ is_valid w }
-    ensures { (operands_in result ≡ layout_of w) × (result.count ≤ 3) }
+    ensures { operands_in result ≡ layout_of w }
 {
     if !valid {
-        return laid_out(0, [0; 3], [0; 3]);
+        return [None; 3];
     }
     let op = w / 8192;
     let s = w / 256 % 32;
     if op == 7 {
-        return laid_out(1, [w % 8192, 0, 0], [5, 0, 0]);
+        return [shown(w % 8192, 5), None, None];
     }
-    if (op < 4) | word::is_bank(s) {
-        return laid_out(3, [s, w / 32 % 8, w % 32], [2, 1, 2]);
+    if op < 4 || word::is_bank(s) {
+        return [shown(s, 2), shown(w / 32 % 8, 1), shown(w % 32, 2)];
     }
-    if is_nzt_of(w, CALL) | is_nzt_of(w, RET) {
-        return laid_out(1, [w % 256, 0, 0], [3, 0, 0]);
+    if is_nzt_of(w, CALL) || is_nzt_of(w, RET) {
+        return [shown(w % 256, 3), None, None];
     }
-    laid_out(2, [s, w % 256, 0], [2, 3, 0])
+    [shown(s, 2), shown(w % 256, 3), None]
 }
 
 // The mnemonic of an opcode.
@@ -65,18 +61,19 @@ fn opcode_name(op: usize) -> [u8; 4]
     ensures { result ≡ filled 4 (get_or opcode_names op []) }
 {
     match op {
-        0 => return *b"MOVE",
-        1 => return *b"ADD ",
-        2 => return *b"AND ",
-        3 => return *b"XOR ",
-        4 => return *b"XEC ",
-        5 => return *b"NZT ",
-        6 => return *b"XMIT",
-        _ => return *b"JMP ",
+        0 => *b"MOVE",
+        1 => *b"ADD ",
+        2 => *b"AND ",
+        3 => *b"XOR ",
+        4 => *b"XEC ",
+        5 => *b"NZT ",
+        6 => *b"XMIT",
+        _ => *b"JMP ",
     }
 }
 
 // The mnemonic of a word.
+#[tactic(auto, unfolding(crate::specs::Layout::mnemonic_of))]
 pub fn mnemonic(w: usize, valid: bool) -> [u8; 4]
     requires { (w < 65536) × (valid ≡ is_valid w) }
     ensures { result ≡ filled 4 (mnemonic_of w) }

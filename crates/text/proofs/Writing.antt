@@ -2,13 +2,12 @@
 use mathlib.Core.Path.{◌≡◌, refl, sym, ◌∙◌, ap, subst}
 use mathlib.Core.List.{List, [], ◌∷◌, ◌++◌, append_assoc, append-nil}
 use Prim.Native.Nat.{ℕ, zero, suc, ◌+◌, ◌-◌, ◌*◌, ◌/◌, ◌%◌, ◌^◌, ◌≤◌, ◌<◌}
-use native.Mathlib.Numerals.{add-one}
 use native.Mathlib.Omega.{arith}
 use borrow.Author.Tests.{lt-ltb, le-ltb}
 use borrow.Rule.Slice.PartMut.{put_mid, mid_len, same_len_mid}
-use lib.ListN.{length, take, drop, set, length-append, length-set, length-replicate}
+use lib.ListN.{length, get_or, take, drop, length-append, length-replicate}
 use lib.Pow.{pow-add}
-use lib.Seq.{length-take-le, take_at, take-suc-set, drop_at, drop-drop, drop-set-lt}
+use lib.Seq.{length-take-le, take_at, drop_at, drop-drop}
 use Rattle.text.specs.Text.{decimal, octal, spaces, filled}
 use Rattle.text.specs.Parts.{Written}
 
@@ -49,6 +48,10 @@ module _ (out : List ℕ) (at : ℕ) (text : List ℕ) (room : at + length text 
         long = same_len_mid at (at + length text - at) out last (ap length same ∙ sym part_length);
       }
 
+  -- by the place behind it
+  pub put_up_to : (to : ℕ) (last : List ℕ) → to ≡ at + length text → last ≡ text → Written out at text (put_mid at (to - at) out last) to
+  put_up_to to last ends same = subst (λ (n : ℕ). Written out at text (put_mid at (n - at) out last) n) (sym ends) (put_here last same)
+
 -- ---- texts behind each other
 
 -- what is equal from a place on is equal further on
@@ -71,37 +74,6 @@ the_same {a = a} {b = b} {i = i} {j = j} w e = subst (λ (t : List ℕ). Written
 pub nothing_written : (before : List ℕ) (at : ℕ) → Written before at [] before at
 nothing_written before at = record { line = sym (append-nil (take at before)); place = omega arith; beyond = refl; long = refl }
 
--- ---- a text put byte by byte: what is there and what is left make the whole
-
--- `rest` is left of a text that is put at a place, and `b` is the place behind what is there
-pub record Going (before : List ℕ) (at : ℕ) (text : List ℕ) (out : List ℕ) (b : ℕ) (rest : List ℕ) : Type 0 where
-  pub line : take b out ++ rest ≡ take at before ++ text
-  pub place : b + length rest ≡ at + length text
-  pub beyond : drop b out ≡ drop b before
-  pub long : length out ≡ length before
-
-pub nothing_there : (before : List ℕ) (at : ℕ) (text : List ℕ) → Going before at text before at text
-nothing_there before at text = record { line = refl; place = refl; beyond = refl; long = refl }
-
-pub one_more : {before text out rest : List ℕ} {at b : ℕ} (byte : ℕ) → b < length out → Going before at text out b (byte ∷ rest)
-    → Going before at text (set out b byte) (b + 1) rest
-one_more {before = before} {out = out} {rest = rest} {b = b} byte below g =
-    record {
-      line = rw (add-one b, take-suc-set out b byte, append_assoc) g.line;
-      place = omega (arith, g.place);
-      beyond = drop-set-lt (b + 1) out b byte (omega arith) ∙ further out before b 1 g.beyond;
-      long = length-set out b byte ∙ g.long;
-    }
-
-pub all_there : {before text out : List ℕ} {at b : ℕ} → Going before at text out b [] → Written before at text out b
-all_there {out = out} {b = b} g =
-    record { line = sym (append-nil (take b out)) ∙ g.line; place = omega (arith, g.place); beyond = g.beyond; long = g.long }
-
--- a byte that is what the rest begins with
-pub goes_on_lem : {before text out rest next : List ℕ} {at b byte : ℕ} → b < length out → Going before at text out b rest → rest ≡ byte ∷ next
-    → Going before at text (set out b byte) (b + 1) next
-goes_on_lem {before} {text} {out} {at = at} {b = b} {byte = byte} below g e = one_more byte below (subst (Going before at text out b) e g)
-
 -- ---- the digits of a number
 
 pub one_digit : (n : ℕ) {x : ℕ} → n < 10 → x ≡ 48 + n → x ∷ [] ≡ decimal n
@@ -122,11 +94,13 @@ unfolding octal
 length_octal zero value = refl
 length_octal (suc n) value = ap suc (length_octal n value)
 
--- the first of n digits has the place below n
-pub first_octal : (n m value : ℕ) {place byte : ℕ} → byte ≡ 48 + value / 8 ^ place % 8 → n ≡ suc m → place ≡ m
-    → octal n value ≡ byte ∷ octal m value
+-- the digit at a place, of those with leading zeros
+pub octal_at : (n value i : ℕ) → i < n → get_or (octal n value) i 0 ≡ 48 + value / 8 ^ (n - 1 - i) % 8
 unfolding octal
-first_octal n m value e h f = ap (λ (x : ℕ). octal x value) h ∙ ap (λ (x : ℕ). x ∷ octal m value) (sym (e ∙ ap (λ (x : ℕ). 48 + value / 8 ^ x % 8) f))
+octal_at zero value i below = absurd (omega arith)
+octal_at (suc n) value zero below = ap (λ (m : ℕ). 48 + value / 8 ^ m % 8) {x = n} {y = suc n - 1 - 0} (omega arith)
+octal_at (suc n) value (suc i) below =
+    octal_at n value i (omega arith) ∙ ap (λ (m : ℕ). 48 + value / 8 ^ m % 8) {x = n - 1 - i} {y = suc n - 1 - suc i} (omega arith)
 
 pub eight_more : (n : ℕ) → 8 ^ suc n ≡ 8 * 8 ^ n
 eight_more n = ap (λ (x : ℕ). 8 ^ x) {x = suc n} {y = 1 + n} (omega arith) ∙ pow-add 8 1 n
@@ -141,9 +115,6 @@ eights (suc n) =
     ∙ sym (eight_more n)
 
 -- ---- text filled up
-
-pub first_space : (n m : ℕ) → n ≡ suc m → spaces n ≡ 32 ∷ spaces m
-first_space n m e = ap spaces e
 
 pub length_filled : (n : ℕ) (text : List ℕ) → length text ≤ n → length (filled n text) ≡ n
 length_filled n text fits = length-append text (spaces (n - length text)) ∙ rw length-replicate (omega arith)

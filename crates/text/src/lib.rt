@@ -20,7 +20,7 @@ fn digit(d: usize) -> u8
     requires { d < 10 }
     ensures { result ≡ 48 + d }
 {
-    (48 + d) as u8
+    b'0' + d as u8
 }
 
 // Puts a number below 1,000 in decimal.
@@ -29,15 +29,16 @@ fn put_decimal(out: &mut [u8], at: usize, n: usize) -> usize
     ensures { Written out.old at (decimal n) out.new result × (result ≤ at + 3) }
 {
     if n < 10 {
-        let one = [digit(n)];
-        return put(out, at, &one);
+        return put(out, at, &[digit(n)]);
     }
     if n < 100 {
-        let two = [digit(n / 10), digit(n % 10)];
-        return put(out, at, &two);
+        return put(out, at, &[digit(n / 10), digit(n % 10)]);
     }
-    let three = [digit(n / 100), digit(n / 10 % 10), digit(n % 10)];
-    put(out, at, &three)
+    put(
+        out,
+        at,
+        &[digit(n / 100), digit(n / 10 % 10), digit(n % 10)],
+    )
 }
 
 // A text and a number.
@@ -65,18 +66,24 @@ fn octal_digit(value: usize, place: usize) -> u8
     digit((value >> (3 * place)) % 8)
 }
 
+// Fills a slice with the last octal digits of a number.
+fn fill_octal(out: &mut [u8], value: usize)
+    requires { length out.old ≤ 21 }
+    ensures { out.new ≡ octal (length out.old) value }
+{
+    let n = out.len();
+    for (k, byte) in out.iter_mut().enumerate() {
+        *byte = octal_digit(value, n - 1 - k);
+    }
+}
+
 // Puts the last octal digits of a number, with leading zeros.
 pub fn put_octal(out: &mut [u8], at: usize, value: usize, digits: usize) -> usize
     requires { (at + digits ≤ length out.old) × (digits ≤ 21) }
     ensures { Written out.old at (octal digits value) out.new result }
 {
-    let end = at + digits;
-    let mut b = at;
-    while b < end {
-        out[b] = octal_digit(value, end - 1 - b);
-        b += 1;
-    }
-    b
+    fill_octal(&mut out[at..at + digits], value);
+    at + digits
 }
 
 // Puts spaces up to a place.
@@ -84,10 +91,6 @@ pub fn fill(out: &mut [u8], at: usize, to: usize) -> usize
     requires { (at ≤ to) × (to ≤ length out.old) }
     ensures { Written out.old at (spaces (to - at)) out.new result }
 {
-    let mut b = at;
-    while b < to {
-        out[b] = b' ';
-        b += 1;
-    }
-    b
+    out[at..to].fill(b' ');
+    to
 }

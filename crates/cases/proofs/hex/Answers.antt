@@ -1,52 +1,34 @@
 -- `cases::hex` meets its contract: the bytes there and those of the digits left are the whole. Assumes nothing.
-use Prim.Native.Nat.{suc, ◌+◌, ◌-◌}
-use mathlib.Core.Path.{◌≡◌, refl, sym, ap}
-use native.Mathlib.Nat.{sub-zero}
+use Prim.Native.Nat.{ℕ, suc, ◌+◌, ◌*◌, ◌-◌}
+use mathlib.Core.Path.{◌≡◌, refl, ap}
 use native.Mathlib.Omega.{arith}
 use lib.ListN.{length, set, length-set}
+use Rattle.std.proofs.lemmas.List.{set-get_or}
 use Rattle.cases.specs.Cases.{hex_from}
-use Rattle.cases.proofs.Laying.{none_yet, the_rest, all_there, stored_one, hex_over, hex_more, hex_full}
+use Rattle.cases.proofs.Laying.{the_rest, all_there, same_out, as_many, stored_one, hex_over, hex_more, hex_full}
 use Rattle.cases.proofs.hex.Goals as goal
 
-pub loop-n-init : goal.loop-n-init
-loop-n-init c =
-    let a = c.args in
-    (refl, the_rest (none_yet a.out.now _) (ap (hex_from a.s.now a.from) (sym (sub-zero (length a.out.now)))))
-
-pub returns-then-value-eq256 : goal.returns-then-value-eq256
-returns-then-value-eq256 c =
-    let at = c.loop-n in
+pub returns-in_default : goal.returns-in_default
+returns-in_default c =
+    let at = c.loop-k in
     let s = c.args.s.now in
-    let left : length at.out - at.n ≡ suc (length at.out - (at.n + 1)) = omega arith in
-    all_there (the_rest at.invariant.1 (hex_over s at.at c.pair-value.ensures.0 left c.if-value-eq256.true))
+    let left : length at.out - at.k ≡ suc (length at.out - (at.k + 1)) = omega (arith, c.loop-k-test.true, at.auto.out) in
+    same_out (set-get_or at.out at.k 0) (all_there (the_rest at.invariant.1 (hex_over s (c.args.from + 2 * at.k) c.in_default.ensures.value left refl)))
 
-pub loop-n-preserved : goal.loop-n-preserved
-loop-n-preserved c =
-    let at = c.loop-n in
+pub loop-k-preserved : goal.loop-k-preserved
+loop-k-preserved c =
+    let at = c.loop-k in
     let s = c.args.s.now in
-    let value = c.pair-value.result in
-    let left : length at.out - at.n ≡ suc (length (set at.out at.n value) - (at.n + 1)) = rw (length-set at.out at.n value) (omega arith) in (
-      simp length-set (omega arith),
-      stored_one value (the_rest at.invariant.1 (hex_more s at.at c.pair-value.ensures.0 left c.if-value-eq256.false)) (omega arith),
+    let value = c.in-Some.value in
+    let left : length at.out - at.k ≡ suc (length (set at.out at.k value) - (at.k + 1)) = rw (length-set at.out at.k value) (omega (arith, c.loop-k-test.true, at.auto.out)) in (
+      λ h. omega (arith, c.in-Some.ensures.there),
+      the_rest
+          (stored_one value (the_rest at.invariant.1 (hex_more s (c.args.from + 2 * at.k) c.in-Some.ensures.value left (λ e. omega arith))) (omega (arith, c.loop-k-test.true, at.auto.out)))
+          (ap (λ (n : ℕ). hex_from s n (length (set at.out at.k value) - (at.k + 1))) {x = c.args.from + 2 * at.k + 2} {y = c.args.from + 2 * (at.k + 1)} (omega arith)),
     )
 
 pub returns : goal.returns
 returns c =
-    let at = c.loop-n in
-    let none : length at.out - at.n ≡ 0 = omega arith in
-    all_there (the_rest at.invariant.1 (hex_full c.args.s.now at.at none))
-
-pub shape_of-out-then-value-eq256 : goal.shape_of-out-then-value-eq256
-shape_of-out-then-value-eq256 c = c.loop-n.invariant.0
-
-pub overflow_add-at : goal.overflow_add-at
-overflow_add-at c = omega (arith, c.pair-value.ensures.2 (omega arith))
-
-pub overflow_add-n : goal.overflow_add-n
-overflow_add-n c = omega arith
-
-pub loop-n-smaller : goal.loop-n-smaller
-loop-n-smaller c = simp length-set (omega arith)
-
-pub shape_of-out : goal.shape_of-out
-shape_of-out c = c.loop-n.invariant.0
+    let at = c.loop-k in
+    let none : length at.out - at.k ≡ 0 = omega (arith, c.loop-k-test.false, at.auto.out) in
+    as_many (omega (arith, c.loop-k-test.false, at.auto.out)) (all_there (the_rest at.invariant.1 (hex_full c.args.s.now (c.args.from + 2 * at.k) none)))

@@ -1,39 +1,20 @@
 -- `cases::number` meets its contract: the value with the digits left behind it is the number. Assumes nothing.
-use mathlib.Core.Path.{refl}
+use mathlib.Core.Path.{refl, ◌∙◌}
 use native.Mathlib.Omega.{arith}
 use Rattle.cases.proofs.Laws.{digits_over, no_digit, one_digit}
 use Rattle.cases.proofs.number.Goals as goal
 
-pub returns-then-d-ge10 : goal.returns-then-d-ge10
-returns-then-d-ge10 c =
-    let at = c in (
-      no_digit at.args.s.now at.loop-at.at at.loop-at.value _ at.loop-at.invariant.0 (omega arith) c.digit-d.ensures.0 (omega arith),
-      omega arith,
-    )
+pub loop-byte-preserved : goal.loop-byte-preserved
+loop-byte-preserved c =
+    let at = c.loop-byte in
+    (one_digit _ at.byte-index at.value _ at.invariant.0 c.loop-byte-test.true (c.from.ensures ∙ c.in-Some.ensures.0) (omega (arith, c.in-Some.ensures.1)), omega arith)
 
-pub loop-at-preserved : goal.loop-at-preserved
-loop-at-preserved c =
-    let at = c in (
-      one_digit at.args.s.now at.loop-at.at at.loop-at.value _ at.loop-at.invariant.0 (omega arith) c.digit-d.ensures.0 (omega arith),
-      omega arith,
-    )
+pub returns-in_default : goal.returns-in_default
+returns-in_default c =
+    let at = c.loop-byte in
+    (no_digit _ at.byte-index at.value _ at.invariant.0 c.loop-byte-test.true refl c.in_default.ensures, omega arith)
 
-pub returns : goal.returns
-returns c =
-    let at = c in
-    (digits_over at.args.s.now at.loop-at.at at.loop-at.value _ at.loop-at.invariant.0 (omega arith), omega arith)
-
-pub loop-at-init : goal.loop-at-init
-loop-at-init c = (refl, omega arith)
-
-pub overflow_mul-value : goal.overflow_mul-value
-overflow_mul-value c = omega arith
-
-pub overflow_add-value : goal.overflow_add-value
-overflow_add-value c = omega arith
-
-pub overflow_add-at : goal.overflow_add-at
-overflow_add-at c = omega arith
-
-pub loop-at-smaller : goal.loop-at-smaller
-loop-at-smaller c = omega arith
+pub returns-after-loop-byte : goal.returns-after-loop-byte
+returns-after-loop-byte c =
+    let at = c.loop-byte in
+    (digits_over _ at.byte-index at.value _ at.invariant.0 c.loop-byte-test.false, omega arith)

@@ -1,11 +1,12 @@
-use Prim.Native.Nat.{◌-◌, ◌≤◌}
+use mathlib.Core.Path.{◌≡◌}
+use mathlib.Core.List.{List, ◌++◌}
+use Prim.Native.Nat.{ℕ}
+use lib.ListN.{drop}
 use Rattle.text.specs.Parts.{Written}
-use Rattle.mnemonics.specs.Parts.{operands_below}
+use Rattle.mnemonics.specs.Parts.{operands_in}
 use Rattle.columns.specs.Parts.{spaced_text}
 use Rattle.columns.proofs.put_operands.Given as goal
 
-abbrev pub invariant-loop-k : goal.invariant-loop-k
-invariant-loop-k l = Written l.initial.out l.at (spaced_text (operands_below l.layout l.k)) l.out l.b × (l.k ≤ l.layout.count)
-
-abbrev pub decreases-loop-k : goal.decreases-loop-k
-decreases-loop-k l = l.layout.count - l.k
+abbrev pub invariant-loop-field : goal.invariant-loop-field
+invariant-loop-field l =
+    (t : List ℕ) × Written l.initial.out l.at t l.out l.b × (t ++ spaced_text (operands_in (drop l.field-index l.field-items)) ≡ spaced_text (operands_in l.field-items))
