@@ -12,8 +12,8 @@ use Rattle.foretell.specs.Foretell.{ForetellAnswer}
 use Rattle.foretell.specs.Foretell.{Refused as NotForetold, Foretold}
 use Rattle.emulator.specs.Run.{RunAnswer}
 use Rattle.emulator.specs.Run.{Refused, Ended}
-use Rattle.listing.specs.declared.ListAnswer.{ListAnswer}
-use Rattle.listing.specs.declared.ListAnswer.TheVariants.{Listed, Refused as NotListed}
+use Rattle.listing.specs.Answer.{ListAnswer}
+use Rattle.listing.specs.Answer.{Listed, Refused as NotListed}
 use Rattle.numbers.specs.Words.{bits_from, number_in}
 
 -- riptide_count_sets: the four counts, each in 12 bits from bit 8 on; or 12

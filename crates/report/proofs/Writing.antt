@@ -1,13 +1,16 @@
 -- The lines of several parts, and the counts of a map.
-use mathlib.Core.Path.{◌≡◌, ◌∙◌}
+use mathlib.Core.Path.{◌≡◌, refl, ◌∙◌}
+use Rattle.std.specs.Prelude.{Result, Ok, Err}
+use Rattle.refusal.specs.declared.Refusal.{Refusal}
+use Rattle.map.specs.declared.SetSizes.{SetSizes}
 use mathlib.Core.List.{List, ◌++◌, append_assoc}
 use Prim.Native.Nat.{ℕ, ◌<◌}
 use native.Mathlib.Omega.{arith}
 use borrow.Author.Tests.{eq-eqb}
 use lib.ListN.{length}
 use Rattle.map.specs.Map.{Counts}
-use Rattle.map.specs.Map.{Sets, Refused}
-use Rattle.map.specs.Map.{map_length, count_of, counted}
+use Rattle.map.specs.Map.{Sets}
+use Rattle.map.specs.Map.{map_length, count_of, counts_told, counted}
 use Rattle.map.proofs.Laws.{count_le}
 use Rattle.machine.specs.Step.{word_count}
 use Rattle.text.specs.Text.{decimal, space_text, refused_text}
@@ -45,9 +48,11 @@ module _ {o a b : List ℕ} {i p q : ℕ} where
 
 -- ---- the counts of a map of its length
 
-pub none_refused : (map : List ℕ) {r : Counts} → length map ≡ map_length → r ≡ counted map → r ≡ Refused → ⊥
+pub none_refused : (map : List ℕ) (r : Result SetSizes Refusal) → length map ≡ map_length → counts_told r ≡ counted map
+    → ((sizes : SetSizes) → r ≡ Ok sizes → ⊥) → ⊥
 unfolding counted
-none_refused map long e f =
+none_refused map (Ok sizes) long e other = other sizes refl
+none_refused map (Err refusal) long e other =
     let told : counted map ≡ Sets (count_of map 0) (count_of map 1) (count_of map 2) (count_of map 3) = rw (eq-eqb (length map) map_length long) in
     let z : ◌≡◌ {A = ℕ} 0 1 = cc in
     omega arith

@@ -6,29 +6,30 @@ ghost use Rattle.map.specs.Map.{map_length};
 ghost use Rattle.machine.specs.Step.{word_count};
 ghost use Rattle.emulator.specs.Run.{image_fits};
 ghost use Rattle.text.specs.Parts.{Written};
+ghost use Rattle.findings.specs.Findings.{fault_number};
 ghost use Rattle.report.specs.Report.{sets_text, admitted_line, found_line, words_line};
 
-use admission::AdmitAnswer;
-use map::Counts;
+use findings::Failure;
+use map::SetSizes;
 
-fn put_found(out: &mut [u8], number: usize, depth: usize, address: usize) -> usize
-    requires { (64 ≤ length out.old) × (number < 1000) × (depth < 1000) × (address < 1000) }
-    ensures { Written out.old 0 (found_line number depth address) out.new result × (result < 64) }
+fn put_found(out: &mut [u8], failure: Failure) -> usize
+    requires { (64 ≤ length out.old) × (fault_number failure.fault < 1000) × (failure.depth < 1000) × (failure.address < 1000) }
+    ensures { Written out.old 0 (found_line (fault_number failure.fault) failure.depth failure.address) out.new result × (result < 64) }
 {
-    let b = text::put_value(out, 0, b"refused ", number);
-    let c = text::put_value(out, b, b" depth ", depth);
-    text::put_value(out, c, b" address ", address)
+    let b = text::put_value(out, 0, b"refused ", usize::from(failure.fault.number()));
+    let c = text::put_value(out, b, b" depth ", failure.depth);
+    text::put_value(out, c, b" address ", failure.address)
 }
 
 // How many addresses each of the four sets has.
-fn put_sets(out: &mut [u8], at: usize, a: usize, b: usize, c: usize, d: usize) -> usize
-    requires { (at + 27 ≤ length out.old) × (a < 1000) × (b < 1000) × (c < 1000) × (d < 1000) }
-    ensures { Written out.old at (sets_text a b c d) out.new result × (result ≤ at + 27) }
+fn put_sets(out: &mut [u8], at: usize, sizes: SetSizes) -> usize
+    requires { (at + 27 ≤ length out.old) × (sizes.left_readable < 1000) × (sizes.left_writable < 1000) × (sizes.right_readable < 1000) × (sizes.right_writable < 1000) }
+    ensures { Written out.old at (sets_text sizes.left_readable sizes.left_writable sizes.right_readable sizes.right_writable) out.new result × (result ≤ at + 27) }
 {
-    let e = text::put_value(out, at, b" left ", a);
-    let f = text::put_value(out, e, b" ", b);
-    let g = text::put_value(out, f, b" right ", c);
-    text::put_value(out, g, b" ", d)
+    let b = text::put_value(out, at, b" left ", sizes.left_readable);
+    let c = text::put_value(out, b, b" ", sizes.left_writable);
+    let d = text::put_value(out, c, b" right ", sizes.right_readable);
+    text::put_value(out, d, b" ", sizes.right_writable)
 }
 
 fn put_admitted(out: &mut [u8], words: usize, map: &[u8]) -> usize
@@ -36,23 +37,10 @@ fn put_admitted(out: &mut [u8], words: usize, map: &[u8]) -> usize
     ensures { ((image : List ℕ) → words ≡ word_count image → Written out.old 0 (admitted_line image map.now) out.new result) × (result < 64) }
 {
     let a = text::put_value(out, 0, b"admitted words ", words);
-    let Counts::Sets {
-        left_readable,
-        left_writable,
-        right_readable,
-        right_writable,
-    } = map::count(map)
-    else {
+    let Ok(sizes) = map::count(map) else {
         return a;
     };
-    put_sets(
-        out,
-        a,
-        left_readable,
-        left_writable,
-        right_readable,
-        right_writable,
-    )
+    put_sets(out, a, sizes)
 }
 
 // Room for the table of 400 words.
@@ -71,20 +59,9 @@ pub fn put_answer(out: &mut [u8], map: &[u8], image: &[u8]) -> usize
     let size = words * facts::WORD_RECORDS;
     let mut table = table_buffer();
     let answered = admission::admit(image, map, &mut table[..size]);
-    let answer = answered.answer;
-    match answer {
-        AdmitAnswer::Refused { number } => {
-            return text::put_door(out, number);
-        }
-        AdmitAnswer::Admitted => {
-            return put_admitted(out, words, map);
-        }
-        AdmitAnswer::Found {
-            number,
-            depth,
-            address,
-        } => {
-            return put_found(out, number, depth, address);
-        }
+    match answered.answer {
+        Ok(None) => put_admitted(out, words, map),
+        Ok(Some(failure)) => put_found(out, failure),
+        Err(refusal) => text::put_door(out, usize::from(refusal.number())),
     }
 }

@@ -17,26 +17,26 @@ put_door-requires c =
     let image = start.args.image.now in
     let map = start.args.map.now in
     let e = verdict image map start.requires admitted.table_buffer-table.result admitted.table_buffer-table.ensures admitted.admit-answered.ensures.0 in
-    absurd (never_refused image map e c.in-Refused.is)
+    absurd (never_refused image map e c.in-Err.is)
 
-pub returns-in-Refused : goal.returns-in-Refused
-returns-in-Refused c =
+pub returns-in-Err : goal.returns-in-Err
+returns-in-Err c =
     let admitted = c in
     let start = admitted in
     let image = start.args.image.now in
     let map = start.args.map.now in
     let e = verdict image map start.requires admitted.table_buffer-table.result admitted.table_buffer-table.ensures admitted.admit-answered.ensures.0 in
-    absurd (never_refused image map e c.in-Refused.is)
+    absurd (never_refused image map e c.in-Err.is)
 
-pub returns-in-Admitted : goal.returns-in-Admitted
-returns-in-Admitted c =
+pub returns-in-Ok-None : goal.returns-in-Ok-None
+returns-in-Ok-None c =
     let admitted = c in
     let start = admitted in
     let image = start.args.image.now in
     let map = start.args.map.now in
     let e = verdict image map start.requires admitted.table_buffer-table.result admitted.table_buffer-table.ensures admitted.admit-answered.ensures.0 in
     let w = c.put_admitted.ensures in
-    (the_same (w.0 image refl) (the_line image map e c.in-Admitted.is), w.1)
+    (the_same (w.0 image refl) (the_line image map e c.in-Ok-None.is), w.1)
 
 pub put_found-requires : goal.put_found-requires
 put_found-requires c =
@@ -45,15 +45,15 @@ put_found-requires c =
     let image = start.args.image.now in
     let map = start.args.map.now in
     let e = verdict image map start.requires admitted.table_buffer-table.result admitted.table_buffer-table.ensures admitted.admit-answered.ensures.0 in
-    let small = small_found image map e start.requires.3 c.in-Found.is in
+    let small = small_found image map e start.requires.3 c.in-Ok-Some.is in
     (start.requires.0, small.0, small.1, small.2)
 
-pub returns-in-Found : goal.returns-in-Found
-returns-in-Found c =
+pub returns-in-Ok-Some : goal.returns-in-Ok-Some
+returns-in-Ok-Some c =
     let admitted = c in
     let start = admitted in
     let image = start.args.image.now in
     let map = start.args.map.now in
     let e = verdict image map start.requires admitted.table_buffer-table.result admitted.table_buffer-table.ensures admitted.admit-answered.ensures.0 in
     let w = c.put_found.ensures in
-    (the_same w.0 (the_line image map e c.in-Found.is), w.1)
+    (the_same w.0 (the_line image map e c.in-Ok-Some.is), w.1)
