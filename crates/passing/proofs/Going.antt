@@ -9,7 +9,10 @@ use lib.ListN.{get_or}
 use borrow.Author.Tests.{lt-ltb, le-ltb}
 use Rattle.choice.specs.Choice.{pick}
 use Rattle.state.specs.State.{stack_places}
+use mathlib.Core.Logic.{◌⊎◌, inl, inr}
+use Rattle.control.specs.declared.Paged.{Paged}
 use Rattle.forms.specs.declared.Form.{Form}
+use Rattle.forms.specs.declared.Form.TheVariants.{Defer, Return, Invalid}
 use Rattle.machine.specs.Shape.{Source, Target, register, branch, call, act, go, source_of, slot_of}
 use Rattle.machine.specs.Step.{word_count, in_page}
 use Rattle.forms.specs.Forms.{shape_is}
@@ -103,3 +106,12 @@ pub retold : (image asked : List ℕ) (depth pc : ℕ) (facts : List ℕ) {t u m
     → Passed image asked depth t m (word_passes (word_count image) depth pc facts (shape_is g)) u n r
     → Passed image asked depth t m (word_passes (word_count image) depth pc facts (shape_is f)) u n r
 retold image asked depth pc facts e p = passed_as (ap (λ (f : Form). word_passes (word_count image) depth pc facts (shape_is f)) e) p
+
+-- an XEC, a RET and an invalid word pass on nothing of their own
+pub none_told : (image asked : List ℕ) (depth pc : ℕ) (facts : List ℕ) {t m : List ℕ} {f : Form}
+    → ((w : Paged) × (f ≡ Defer w)) ⊎ ((f ≡ Return) ⊎ (f ≡ Invalid)) → Ready image asked t m
+    → Passed image asked depth t m (word_passes (word_count image) depth pc facts (shape_is f)) t m false
+unfolding word_passes
+none_told image asked depth pc facts (inl (w, e)) g = retold image asked depth pc facts e (passed_none g)
+none_told image asked depth pc facts (inr (inl e)) g = retold image asked depth pc facts e (passed_none g)
+none_told image asked depth pc facts (inr (inr e)) g = retold image asked depth pc facts e (passed_none g)

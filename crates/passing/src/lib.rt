@@ -5,9 +5,10 @@
 
 ghost use Rattle.std.specs.Prelude.{◌≡◌, true, false, not, [], ◌<◌};
 ghost use Rattle.choice.specs.Choice.{pick};
-ghost use Rattle.machine.specs.Shape.{source_of, register, go, branch, call};
+ghost use Rattle.machine.specs.Shape.{register, go, call};
 ghost use Rattle.machine.specs.Step.{word_count};
-ghost use Rattle.machine.specs.Parts.{IsPage, shape_of_delivery};
+ghost use Rattle.machine.specs.Parts.{shape_of_delivery};
+ghost use Rattle.control.specs.Pages.{branch_shape};
 ghost use Rattle.forms.specs.Forms.{shape_is, FormFits};
 ghost use Rattle.facts.specs.Record.{FineCell, holds_cell, join_cell, cell_at, put_cell};
 ghost use Rattle.cells.specs.Cells.{Bounded};
@@ -16,9 +17,18 @@ ghost use Rattle.transfer.specs.Passes.{point_at, toward, word_passes};
 ghost use Rattle.marks.specs.Marks.{Sited, Noted};
 ghost use Rattle.passing.specs.Passing.{Laid, asks, seen, Ready, Passed};
 
+use control::Paged;
 use facts::Cell;
 use forms::Form;
 use machine::act::Delivery;
+
+// A point of the program that is reached, and what is known there.
+#[derive(Clone, Copy)]
+pub struct Reached {
+    pub depth: usize,
+    pub pc: usize,
+    pub facts: [u16; 11],
+}
 
 // Joins d into the cell at an address and depth. Says whether that changed, and then notes it.
 fn join_at(
@@ -58,28 +68,21 @@ fn hand_on(
     join_at(image, table, marks, depth, a, d)
 }
 
-// Passes facts on to an address at a depth; an address at or above N gets nothing. Says whether the cell did not hold them,
-// as all that follow do.
-pub fn pass(
-    image: &[u8],
-    asked: &[u8],
-    table: &mut [u8],
-    marks: &mut [u64],
-    depth: usize,
-    a: usize,
-    facts: [u16; 11],
-) -> bool
-    requires { Ready image.now asked.now table.old marks.old × (depth < 9) × Bounded facts }
-    ensures { Passed image.now asked.now depth table.old marks.old (toward (word_count image.now) depth a facts) table.new marks.new result }
+// Passes facts on to a point; one at an address at or above N gets nothing. Says whether the cell did not hold them, as all
+// that follow do.
+pub fn pass(image: &[u8], asked: &[u8], table: &mut [u8], marks: &mut [u64], to: Reached) -> bool
+    requires { Ready image.now asked.now table.old marks.old × (to.depth < 9) × Bounded to.facts }
+    ensures { Passed image.now asked.now to.depth table.old marks.old (toward (word_count image.now) to.depth to.pc to.facts) table.new marks.new result }
 {
-    if a < image.len() / 2 {
-        let d = Cell {
-            reached: true,
-            facts,
-        };
-        return hand_on(image, asked, table, marks, depth, a, d);
+    if image.len() / 2 <= to.pc {
+        return false;
     }
-    false
+    let facts = to.facts;
+    let d = Cell {
+        reached: true,
+        facts,
+    };
+    hand_on(image, asked, table, marks, to.depth, to.pc, d)
 }
 
 // The same where a test holds, and else nothing.
@@ -88,16 +91,14 @@ pub fn pass_if(
     asked: &[u8],
     table: &mut [u8],
     marks: &mut [u64],
-    depth: usize,
-    a: usize,
-    facts: [u16; 11],
+    to: Reached,
     test: bool,
 ) -> bool
-    requires { Ready image.now asked.now table.old marks.old × (depth < 9) × Bounded facts }
-    ensures { Passed image.now asked.now depth table.old marks.old (pick test (toward (word_count image.now) depth a facts) []) table.new marks.new result }
+    requires { Ready image.now asked.now table.old marks.old × (to.depth < 9) × Bounded to.facts }
+    ensures { Passed image.now asked.now to.depth table.old marks.old (pick test (toward (word_count image.now) to.depth to.pc to.facts) []) table.new marks.new result }
 {
     if test {
-        return pass(image, asked, table, marks, depth, a, facts);
+        return pass(image, asked, table, marks, to);
     }
     false
 }
@@ -108,49 +109,40 @@ fn pass_act(
     asked: &[u8],
     table: &mut [u8],
     marks: &mut [u64],
-    depth: usize,
-    pc: usize,
-    facts: [u16; 11],
+    p: Reached,
     a: Delivery,
 ) -> bool
-    requires { Ready image.now asked.now table.old marks.old × (depth < 9) × InImage image.now pc × Bounded facts × (a.rl < 8) × (a.i < 256) }
-    ensures { Passed image.now asked.now depth table.old marks.old (word_passes (word_count image.now) depth pc facts (shape_of_delivery a)) table.new marks.new result }
+    requires { Ready image.now asked.now table.old marks.old × (p.depth < 9) × InImage image.now p.pc × Bounded p.facts × (a.l < 8) }
+    ensures { Passed image.now asked.now p.depth table.old marks.old (word_passes (word_count image.now) p.depth p.pc p.facts (shape_of_delivery a)) table.new marks.new result }
 {
-    let x = effects::argument_fact(facts, a);
-    let after = effects::facts_after(a.op, x, a.d, facts);
-    pass(image, asked, table, marks, depth, pc + 1, after)
+    let x = effects::argument_fact(p.facts, a);
+    let facts = effects::facts_after(a.op, x, a.d, p.facts);
+    let to = Reached {
+        pc: p.pc + 1,
+        facts,
+        ..p
+    };
+    pass(image, asked, table, marks, to)
 }
 
-// NZT of the source s, or of its field of length l where it is a bank.
+// NZT: on, and away.
 fn pass_branch(
     image: &[u8],
     asked: &[u8],
     table: &mut [u8],
     marks: &mut [u64],
-    depth: usize,
-    pc: usize,
-    facts: [u16; 11],
-    s: usize,
-    l: usize,
-    page: usize,
-    i: usize,
+    p: Reached,
+    w: Paged,
 ) -> bool
-    requires { Ready image.now asked.now table.old marks.old × (depth < 9) × InImage image.now pc × Bounded facts × (l < 8) × IsPage page }
-    ensures { Passed image.now asked.now depth table.old marks.old (word_passes (word_count image.now) depth pc facts (go (source_of s 0 0 l) (branch page i))) table.new marks.new result }
+    requires { Ready image.now asked.now table.old marks.old × (p.depth < 9) × InImage image.now p.pc × Bounded p.facts × (w.l < 8) }
+    ensures { Passed image.now asked.now p.depth table.old marks.old (word_passes (word_count image.now) p.depth p.pc p.facts (branch_shape w)) table.new marks.new result }
 {
-    let v = callers::values_of(facts, s, l);
-    let on = pass_if(image, asked, table, marks, depth, pc + 1, facts, v.low == 0);
-    let a = control::in_page(page, pc, i);
-    let away = pass_if(
-        image,
-        asked,
-        table,
-        marks,
-        depth,
-        a,
-        facts,
-        1 < v.low + v.count,
-    );
+    let v = callers::values_of(p.facts, w.s, w.l);
+    let next = Reached { pc: p.pc + 1, ..p };
+    let on = pass_if(image, asked, table, marks, next, v.low == 0);
+    let pc = control::in_page(w.page, p.pc, usize::from(w.i));
+    let target = Reached { pc, ..p };
+    let away = pass_if(image, asked, table, marks, target, 1 < v.low + v.count);
     on | away
 }
 
@@ -160,67 +152,49 @@ fn pass_call(
     asked: &[u8],
     table: &mut [u8],
     marks: &mut [u64],
-    depth: usize,
-    pc: usize,
-    facts: [u16; 11],
-    i: usize,
+    p: Reached,
+    i: u8,
 ) -> bool
-    requires { Ready image.now asked.now table.old marks.old × (depth < 9) × Bounded facts × (i < 256) }
-    ensures { Passed image.now asked.now depth table.old marks.old (word_passes (word_count image.now) depth pc facts (go (register 0 0 0) (call i))) table.new marks.new result }
+    requires { Ready image.now asked.now table.old marks.old × (p.depth < 9) × Bounded p.facts }
+    ensures { Passed image.now asked.now p.depth table.old marks.old (word_passes (word_count image.now) p.depth p.pc p.facts (go (register 0 0 0) (call i))) table.new marks.new result }
 {
-    if depth == state::PLACES {
+    if p.depth == state::PLACES {
         return false;
     }
-    let v = callers::values_of(facts, 0, 0);
+    let v = callers::values_of(p.facts, 0, 0);
     let mut changed = false;
-    let mut n = 0;
-    while n < v.count {
-        let a = (v.low + n) * 256 + i;
-        if image.len() / 2 <= a {
+    for n in 0..v.count {
+        let pc = (v.low + n) * 256 + usize::from(i);
+        if image.len() / 2 <= pc {
             return changed;
         }
-        let r = pass(image, asked, table, marks, depth + 1, a, facts);
-        changed = changed | r;
-        n += 1;
+        let to = Reached {
+            depth: p.depth + 1,
+            pc,
+            ..p
+        };
+        changed |= pass(image, asked, table, marks, to);
     }
     changed
 }
 
-// What a word that is executed at pc passes on; RET is told by walking::pass_back.
+// What a word that is executed at a point passes on; RET is told by walking::pass_back.
 pub fn pass_word(
     image: &[u8],
     asked: &[u8],
     table: &mut [u8],
     marks: &mut [u64],
-    depth: usize,
-    pc: usize,
-    facts: [u16; 11],
+    p: Reached,
     form: Form,
 ) -> bool
-    requires { Ready image.now asked.now table.old marks.old × (depth < 9) × InImage image.now pc × Bounded facts × FormFits form }
-    ensures { Passed image.now asked.now depth table.old marks.old (word_passes (word_count image.now) depth pc facts (shape_is form)) table.new marks.new result }
+    requires { Ready image.now asked.now table.old marks.old × (p.depth < 9) × InImage image.now p.pc × Bounded p.facts × FormFits form }
+    ensures { Passed image.now asked.now p.depth table.old marks.old (word_passes (word_count image.now) p.depth p.pc p.facts (shape_is form)) table.new marks.new result }
 {
     match form {
-        Form::Act(a) => {
-            return pass_act(image, asked, table, marks, depth, pc, facts, a);
-        }
-        Form::Jump { a } => {
-            return pass(image, asked, table, marks, depth, a, facts);
-        }
-        Form::Branch { s, l, page, i } => {
-            return pass_branch(image, asked, table, marks, depth, pc, facts, s, l, page, i);
-        }
-        Form::Defer { s, l, page, i } => {
-            return false;
-        }
-        Form::Call { i } => {
-            return pass_call(image, asked, table, marks, depth, pc, facts, i);
-        }
-        Form::Return => {
-            return false;
-        }
-        Form::Invalid => {
-            return false;
-        }
+        Form::Act(a) => pass_act(image, asked, table, marks, p, a),
+        Form::Jump { a } => pass(image, asked, table, marks, Reached { pc: a, ..p }),
+        Form::Branch(w) => pass_branch(image, asked, table, marks, p, w),
+        Form::Call { i } => pass_call(image, asked, table, marks, p, i),
+        Form::Defer(_) | Form::Return | Form::Invalid => false,
     }
 }

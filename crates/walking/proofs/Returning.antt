@@ -1,6 +1,6 @@
 -- RET: passed on to the address after every call site, from the last on, so that a cell that changes is none that is
 -- still to be asked.
-use mathlib.Core.Path.{◌≡◌, refl, sym, ◌∙◌, ap, ap₂, subst, subst⁻¹}
+use mathlib.Core.Path.{◌≡◌, refl, sym, ◌∙◌, ap, subst, subst⁻¹}
 use mathlib.Core.Bool.{Bool, true, false, not, ◌&&◌, ◌||◌, and-false}
 use mathlib.Core.List.{List, [], ◌++◌, append_assoc, append-nil}
 use Prim.Native.Nat.{ℕ, ◌+◌, ◌-◌, ◌*◌, ◌≤◌, ◌<◌}
@@ -10,6 +10,7 @@ use lib.Arith.{digits_lt}
 use lib.Dec.{ltb}
 use lib.ListN.{length}
 use borrow.Author.Tests.{lt-ltb, le-ltb, ltb-true, not-true, not-false}
+use Rattle.std.specs.Prelude.{Option, None, Some, SomeIff}
 use Rattle.choice.specs.Choice.{pick}
 use Rattle.choice.proofs.Laws.{and_both}
 use Rattle.machine.specs.Shape.{Shape}
@@ -26,7 +27,7 @@ use Rattle.transfer.proofs.Lists.{down_none, down_more, down_skip}
 use Rattle.transfer.proofs.Returns.{same_site, returns_same}
 use Rattle.passing.proofs.Joining.{held}
 use Rattle.passing.proofs.Passing.{passed_as, passed_none, passed_then, passed_higher, passed_if, passed_not, toward_keeps, still_ready}
-use Rattle.walking.specs.Walking.{site_at, LastBelow}
+use Rattle.walking.specs.Walking.{site_at, after_last, LastBelow}
 
 -- the call sites that are found are those of the table that is seen
 pub sites_seen : (image asked t m : List ℕ) (depth a : ℕ) → Ready image asked t m → depth < depths → a < word_count image
@@ -64,6 +65,11 @@ module _ (image asked marks : List ℕ) (depth a : ℕ) where
             ap (has marks) (sym at) ∙ last.found (omega (arith, some));
       })
 
+-- the number of a mark from `first` on
+pub sub_last : (first : ℕ) (r : Option ℕ) (last : ℕ) → SomeIff r (first + 1 ≤ last) (last - (first + 1)) → after_last r ≡ last - first
+sub_last first None last h = omega (arith, h)
+sub_last first (Some x) last h = omega (arith, h.0, h.1)
+
 -- ---- the last call site of a table below an address
 module _ (image asked : List ℕ) (depth a : ℕ) where
   -- from b on there is none
@@ -81,6 +87,15 @@ module _ (image asked : List ℕ) (depth a : ℕ) where
       go k l h (yes e) = ap (is_call_site image asked depth) e ∙ clear
       go k l h (no ne) = above.none k (omega (arith, ne)) h
 
+  -- the one before b is the last
+  pub above_found : (b : ℕ) → 0 < b → Above b → is_call_site image asked depth (b - 1) ≡ true → LastBelow (is_call_site image asked depth) a (b - 1 + 1)
+  above_found b some above here =
+      record {
+        high = omega (arith, above.high);
+        none = λ k l h. above.none k (omega arith) h;
+        found = λ h. ap (is_call_site image asked depth) {x = b - 1 + 1 - 1} {y = b - 1} (omega arith) ∙ here;
+      }
+
 module _ (image asked t₀ m₀ : List ℕ) (depth : ℕ) (facts : List ℕ) where
   abbrev site : ℕ → Bool
   site = is_call_site image (seen asked t₀) depth
@@ -92,66 +107,61 @@ module _ (image asked t₀ m₀ : List ℕ) (depth : ℕ) (facts : List ℕ) whe
   abbrev back_from : ℕ → List (Pass Cell)
   back_from n = over_down n site after
 
-  -- on the way: the call sites from a on are done, the one before a is next, and the cells below a are as they were
+  -- on the way: the call sites from a on are done, and the cells below a are as they were
   pub record Backing (a : ℕ) (t m : List ℕ) (f : Bool) : Type 0 where
     pub within : a ≤ word_count image
     pub done : List (Pass Cell)
     pub passed : Passed image asked depth t₀ m₀ done t m f
     pub rest : done ++ back_from a ≡ return_passes image (seen asked t₀) depth facts
     pub same : (j : ℕ) → j < a → cell_at (seen asked t) (point_at (word_count image) depth j) ≡ cell_at (seen asked t₀) (point_at (word_count image) depth j)
-    pub next : 0 < a → is_call_site image (seen asked t₀) depth (a - 1) ≡ true
 
-  pub backing_begins : {r : ℕ} → depth < depths → Ready image asked t₀ m₀ → LastBelow (site_at image asked m₀ depth) (word_count image) r → Backing r t₀ m₀ false
-  backing_begins {r = r} d g last =
-      record {
-        within = last.high;
-        done = [];
-        passed = passed_none g;
-        rest = sym (down_skip site after (word_count image) r last.high (λ k l h. sym (sites_seen image asked t₀ m₀ depth k g d h) ∙ last.none k l h));
-        same = λ j h. refl;
-        next = λ some. sym (sites_seen image asked t₀ m₀ depth (r - 1) g d (omega (arith, last.high))) ∙ last.found some;
-      }
+  pub backing_begins : Ready image asked t₀ m₀ → Backing (word_count image) t₀ m₀ false
+  backing_begins g = record { within = omega arith; done = []; passed = passed_none g; rest = refl; same = λ j h. refl }
 
-  pub backing_next : (a : ℕ) {b : ℕ} {t m u n : List ℕ} {f r : Bool} → depth < depths → FineCell (cell_of true facts) → Ready image asked t₀ m₀ → 0 < a → Backing a t m f
-      → Passed image asked depth t m (toward (word_count image) depth a facts) u n r → LastBelow (site_at image asked n depth) (a - 1) b
-      → Backing b u n (f || r)
-  backing_next a {b = b} {t = t} {m = m} {u = u} {n = n} {f = f} {r = r} d fine g some k p last =
-      record {
-        within = omega (arith, k.within, last.high);
-        done = k.done ++ toward (word_count image) depth a facts;
-        passed = passed_then k.passed p;
-        rest =
-            append_assoc k.done (toward (word_count image) depth a facts) (back_from b)
-            ∙ ap (λ (l : List (Pass Cell)). k.done ++ l) (ap₂ (λ (x : ℕ) (l : List (Pass Cell)). toward (word_count image) depth x facts ++ l) again (sym skipped) ∙ sym (first ∙ ap (λ (x : Bool). pick x (after (a - 1)) [] ++ back_from (a - 1)) (k.next some)))
-            ∙ k.rest;
-        same = λ j h. near j (omega (arith, h, last.high));
-        next = λ more. sym (told (b - 1) (omega (arith, more, last.high))) ∙ last.found more;
-      }
-    where
-      again : a ≡ a - 1 + 1
-      again = omega arith
+  module _ (b : ℕ) {t m : List ℕ} {f : Bool} (d : depth < depths) (g : Ready image asked t₀ m₀) (k : Backing b t m f) where
+    told : (j : ℕ) → j < b → site_at image asked m depth j ≡ is_call_site image (seen asked t₀) depth j
+    told j h =
+        sites_seen image asked t m depth j (still_ready g k.passed) d (omega (arith, h, k.within))
+        ∙ same_site image (seen asked t) (seen asked t₀) depth j (k.same j h)
 
-      first : back_from a ≡ pick (site (a - 1)) (after (a - 1)) [] ++ back_from (a - 1)
-      first = down_more site after a some
+    skipped : {r : ℕ} → LastBelow (site_at image asked m depth) b r → back_from b ≡ back_from r
+    skipped {r} last = down_skip site after b r last.high (λ j l h. sym (told j h) ∙ last.none j l h)
 
-      near : (j : ℕ) → j < a - 1 → cell_at (seen asked u) (point_at (word_count image) depth j) ≡ cell_at (seen asked t₀) (point_at (word_count image) depth j)
-      near j h =
-          toward_keeps image asked t m depth a facts (still_ready g k.passed) d fine p (point_at (word_count image) depth j) (digits_lt d (omega (arith, h, k.within))) (λ q. omega (arith, q, h))
-          ∙ k.same j (omega (arith, h))
+    -- none is left
+    pub backing_ends : LastBelow (site_at image asked m depth) b 0
+        → Passed image asked depth t₀ m₀ (return_passes image (seen asked t₀) depth facts) t m f
+    backing_ends last =
+        subst (λ (ps : List (Pass Cell)). Passed image asked depth t₀ m₀ ps t m f)
+        (sym (append-nil k.done) ∙ ap (λ (l : List (Pass Cell)). k.done ++ l) (sym (skipped last ∙ down_none site after)) ∙ k.rest)
+        k.passed
 
-      told : (j : ℕ) → j < a - 1 → site_at image asked n depth j ≡ is_call_site image (seen asked t₀) depth j
-      told j h =
-          sites_seen image asked u n depth j (still_ready (still_ready g k.passed) p) d (omega (arith, h, k.within))
-          ∙ same_site image (seen asked u) (seen asked t₀) depth j (near j h)
+    -- the last one that is left
+    pub backing_next : (a : ℕ) {u n : List ℕ} {r : Bool} → FineCell (cell_of true facts) → LastBelow (site_at image asked m depth) b (a + 1)
+        → Passed image asked depth t m (toward (word_count image) depth (a + 1) facts) u n r → Backing a u n (f || r)
+    backing_next a {u = u} fine last p =
+        record {
+          within = omega (arith, k.within, last.high);
+          done = k.done ++ toward (word_count image) depth (a + 1) facts;
+          passed = passed_then k.passed p;
+          rest =
+              append_assoc k.done (toward (word_count image) depth (a + 1) facts) (back_from a)
+              ∙ ap (λ (l : List (Pass Cell)). k.done ++ l)
+              (sym (skipped last ∙ first ∙ ap (λ (x : Bool). pick x (after a) [] ++ back_from a) yes))
+              ∙ k.rest;
+          same = λ j h.
+              toward_keeps image asked t m depth (a + 1) facts (still_ready g k.passed) d fine p (point_at (word_count image) depth j) (digits_lt d (omega (arith, h, last.high, k.within))) (λ q. omega (arith, q, h))
+              ∙ k.same j (omega (arith, h, last.high));
+        }
+      where
+        first : back_from (a + 1) ≡ pick (site a) (after a) [] ++ back_from a
+        first =
+            down_more site after (a + 1) (omega arith)
+            ∙ ap (λ (x : ℕ). pick (site x) (after x) [] ++ back_from x) {x = a + 1 - 1} {y = a} (omega arith)
 
-      skipped : back_from (a - 1) ≡ back_from b
-      skipped = down_skip site after (a - 1) b last.high (λ j l h. sym (told j h) ∙ last.none j l h)
-
-  pub backing_ends : (a : ℕ) {t m : List ℕ} {f : Bool} → a ≡ 0 → Backing a t m f → Passed image asked depth t₀ m₀ (return_passes image (seen asked t₀) depth facts) t m f
-  backing_ends a {t = t} {m = m} {f = f} z b =
-      subst (λ (ps : List (Pass Cell)). Passed image asked depth t₀ m₀ ps t m f)
-      (sym (append-nil b.done) ∙ ap (λ (l : List (Pass Cell)). b.done ++ l) (sym (ap back_from z ∙ down_none site after)) ∙ b.rest)
-      b.passed
+        yes : site a ≡ true
+        yes =
+            sym (told a (omega (arith, last.high)))
+            ∙ ap (site_at image asked m depth) {x = a} {y = a + 1 - 1} (omega arith) ∙ last.found (omega arith)
 
 -- ---- RET back from a depth, if the cell executes one
 module _ (image asked t m : List ℕ) (depth : ℕ) (facts : List ℕ) (x : Bool) where

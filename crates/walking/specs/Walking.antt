@@ -1,5 +1,5 @@
 -- Which call sites a RET goes back to, as the walk finds them one by one from the last on.
-use Rattle.std.specs.Prelude.{◌≡◌, Bool, true, false, List, ℕ, ◌-◌, ◌≤◌, ◌<◌}
+use Rattle.std.specs.Prelude.{◌≡◌, Bool, true, false, List, Option, None, Some, ℕ, ◌+◌, ◌-◌, ◌≤◌, ◌<◌}
 use Rattle.choice.specs.Choice.{pick}
 use Rattle.machine.specs.Step.{word_count}
 use Rattle.transfer.specs.Passes.{point_at, is_call_site}
@@ -16,3 +16,8 @@ pub record LastBelow (test : ℕ → Bool) (end r : ℕ) : Type 0 where
   pub high : r ≤ end
   pub none : (k : ℕ) → r ≤ k → k < end → test k ≡ false
   pub found : 0 < r → test (r - 1) ≡ true
+
+-- one more than a site that was found, 0 where none was
+abbrev pub after_last : Option ℕ → ℕ
+after_last None = 0
+after_last (Some site) = site + 1

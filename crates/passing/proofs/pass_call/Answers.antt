@@ -5,51 +5,51 @@ use Rattle.passing.proofs.Passing.{passed_size, passed_marks, still_ready}
 use Rattle.passing.proofs.Going.{call_begins, call_next, call_still, call_passed, call_none}
 use Rattle.passing.proofs.pass_call.Goals as goal
 
-pub returns-then-depth-eq-PLACES : goal.returns-then-depth-eq-PLACES
-returns-then-depth-eq-PLACES c =
+pub returns-then-p-eq-PLACES : goal.returns-then-p-eq-PLACES
+returns-then-p-eq-PLACES c =
     let start = c in
     let a = start.args in
-    call_none a.image.now a.asked.now a.depth a.pc a.facts a.i a.table.now a.marks.now c.if-depth-eq-PLACES.true start.requires.0
+    call_none a.image.now a.asked.now a.p.depth a.p.pc a.p.facts a.i a.table.now a.marks.now c.if-p-eq-PLACES.true start.requires.0
 
 pub loop-n-init : goal.loop-n-init
 loop-n-init c =
     let start = c in
     let a = start.args in
-    (omega arith, call_begins a.image.now a.asked.now a.depth a.facts a.i c.values_of-v.result.low start.requires.0)
+    call_begins a.image.now a.asked.now a.p.depth a.p.facts a.i c.values_of-v.result.low start.requires.0
 
-pub shape_of-table-then-image-a : goal.shape_of-table-then-image-a
-shape_of-table-then-image-a c = passed_size c.requires.0 c.loop-n.invariant.1
+pub shape_of-table-then-image-pc : goal.shape_of-table-then-image-pc
+shape_of-table-then-image-pc c = passed_size c.requires.0 c.loop-n.invariant
 
-pub shape_of-marks-then-image-a : goal.shape_of-marks-then-image-a
-shape_of-marks-then-image-a c = passed_marks c.requires.0 c.loop-n.invariant.1
+pub shape_of-marks-then-image-pc : goal.shape_of-marks-then-image-pc
+shape_of-marks-then-image-pc c = passed_marks c.requires.0 c.loop-n.invariant
 
-pub returns-then-image-a : goal.returns-then-image-a
-returns-then-image-a c =
+pub returns-then-image-pc : goal.returns-then-image-pc
+returns-then-image-pc c =
     let start = c in
     let a = start.args in
     let p = c.loop-n in
     let v = c.values_of-v in
-    call_passed a.image.now a.asked.now a.depth a.pc a.facts a.i v.result v.result.count v.ensures.0
-    (omega (arith, c.if-depth-eq-PLACES.false, start.requires.1)) refl
-    (call_still a.image.now a.asked.now a.depth a.facts a.i v.result.low p.n v.result.count p.invariant.0 c.if-image-a.true p.invariant.1)
+    call_passed a.image.now a.asked.now a.p.depth a.p.pc a.p.facts a.i v.result v.result.count v.ensures.0
+    (omega (arith, c.if-p-eq-PLACES.false, start.requires.1)) refl
+    (call_still a.image.now a.asked.now a.p.depth a.p.facts a.i v.result.low p.n v.result.count (omega (arith, p.auto.n-end)) (omega (arith, c.if-image-pc.true, c.from.ensures)) p.invariant)
 
-pub pass-r-requires : goal.pass-r-requires
-pass-r-requires c =
+pub pass-changed-requires : goal.pass-changed-requires
+pass-changed-requires c =
     let start = c in
-    (still_ready start.requires.0 c.loop-n.invariant.1, omega (arith, c.if-depth-eq-PLACES.false, start.requires.1), start.requires.2)
+    (still_ready start.requires.0 c.loop-n.invariant, omega (arith, c.if-p-eq-PLACES.false, start.requires.1), start.requires.2)
 
 pub loop-n-preserved : goal.loop-n-preserved
 loop-n-preserved c =
     let start = c in
     let a = start.args in
     let p = c.loop-n in
-    (omega (arith, c.loop-n-test.true), call_next a.image.now a.asked.now a.depth a.facts a.i c.values_of-v.result.low p.n p.invariant.1 c.pass-r.ensures)
+    call_next a.image.now a.asked.now a.p.depth a.p.facts a.i c.values_of-v.result.low p.n p.invariant (rw c.from.ensures at c.pass-changed.ensures)
 
 pub shape_of-table : goal.shape_of-table
-shape_of-table c = passed_size c.requires.0 c.loop-n.invariant.1
+shape_of-table c = passed_size c.requires.0 c.loop-n.invariant
 
 pub shape_of-marks : goal.shape_of-marks
-shape_of-marks c = passed_marks c.requires.0 c.loop-n.invariant.1
+shape_of-marks c = passed_marks c.requires.0 c.loop-n.invariant
 
 pub returns : goal.returns
 returns c =
@@ -57,5 +57,5 @@ returns c =
     let a = start.args in
     let p = c.loop-n in
     let v = c.values_of-v in
-    call_passed a.image.now a.asked.now a.depth a.pc a.facts a.i v.result p.n v.ensures.0
-    (omega (arith, c.if-depth-eq-PLACES.false, start.requires.1)) (omega (arith, c.loop-n-test.false, p.invariant.0)) p.invariant.1
+    call_passed a.image.now a.asked.now a.p.depth a.p.pc a.p.facts a.i v.result p.n v.ensures.0
+    (omega (arith, c.if-p-eq-PLACES.false, start.requires.1)) (omega (arith, c.loop-n-test.false, p.auto.n-end)) p.invariant

@@ -1,4 +1,3 @@
-use Prim.Native.Nat.{◌-◌, ◌≤◌}
 use Rattle.machine.specs.Step.{word_count}
 use Rattle.passing.specs.Passing.{Passed}
 use Rattle.passing.proofs.Going.{called_to}
@@ -6,7 +5,4 @@ use Rattle.passing.proofs.pass_call.Given as goal
 
 abbrev pub invariant-loop-n : goal.invariant-loop-n
 invariant-loop-n l =
-    (l.n ≤ l.v.count) × Passed l.image l.asked l.depth l.initial.table l.initial.marks (called_to (word_count l.image) l.depth l.facts l.i l.v.low l.n) l.table l.marks l.changed
-
-abbrev pub decreases-loop-n : goal.decreases-loop-n
-decreases-loop-n l = l.v.count - l.n
+    Passed l.image l.asked l.p.depth l.initial.table l.initial.marks (called_to (word_count l.image) l.p.depth l.p.facts l.i l.v.low l.n) l.table l.marks l.changed

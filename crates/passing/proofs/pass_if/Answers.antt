@@ -7,10 +7,10 @@ use Rattle.passing.proofs.pass_if.Goals as goal
 pub returns-then-test : goal.returns-then-test
 returns-then-test c =
     let a = c.args in
-    passed_if a.test (toward (word_count a.image.now) a.depth a.a a.facts) c.if-test.true c.pass.ensures
+    passed_if a.test (toward (word_count a.image.now) a.to.depth a.to.pc a.to.facts) c.if-test.true c.pass.ensures
 
 pub returns : goal.returns
 returns c =
     let start = c in
     let a = start.args in
-    passed_not a.image.now a.asked.now a.depth a.table.now a.marks.now a.test (toward (word_count a.image.now) a.depth a.a a.facts) c.if-test.false start.requires.0
+    passed_not a.image.now a.asked.now a.to.depth a.table.now a.marks.now a.test (toward (word_count a.image.now) a.to.depth a.to.pc a.to.facts) c.if-test.false start.requires.0

@@ -1,8 +1,8 @@
 use Rattle.walking.proofs.Returning.{Backing}
 use Rattle.walking.proofs.pass_back.Given as goal
 
-abbrev pub invariant-loop-a : goal.invariant-loop-a
-invariant-loop-a l = Backing l.image l.asked l.initial.table l.initial.marks l.depth l.facts l.a l.table l.marks l.changed
+abbrev pub invariant-loop-site : goal.invariant-loop-site
+invariant-loop-site l = Backing l.image l.asked l.initial.table l.initial.marks l.depth l.facts l.end l.table l.marks l.changed
 
-abbrev pub decreases-loop-a : goal.decreases-loop-a
-decreases-loop-a l = l.a
+abbrev pub decreases-loop-site : goal.decreases-loop-site
+decreases-loop-site l = l.end

@@ -12,18 +12,17 @@ use Rattle.walking.proofs.pass_words.Goals as goal
 pub pass_executed-requires : goal.pass_executed-requires
 pass_executed-requires c =
     let pre = c.requires in
-    let fits = subst FormFits c.in-Defer.is pre.4 in
-    (pre.0, pre.1, pre.2, pre.3, fits.0, fits.1, fits.2)
+    (pre.0, pre.1, pre.2, pre.3, subst FormFits c.in-Defer.is pre.4)
 
 pub returns-in-Defer : goal.returns-in-Defer
 returns-in-Defer c =
     let a = c.args in
-    passed_as (ap (λ (f : Form). all_passes (word_count a.image.now) a.depth a.pc a.facts (words_at a.image.now a.pc a.facts (shape_is f))) c.in-Defer.is) c.pass_executed.ensures
+    passed_as (ap (λ (f : Form). all_passes (word_count a.image.now) a.p.depth a.p.pc a.p.facts (words_at a.image.now a.p.pc a.p.facts (shape_is f))) c.in-Defer.is) c.pass_executed.ensures
 
-pub returns : goal.returns
-returns c =
+pub returns-in_default : goal.returns-in_default
+returns-in_default c =
     let a = c.args in
     passed_as
-    (ap (all_passes (word_count a.image.now) a.depth a.pc a.facts) (itself a.image.now a.pc a.facts a.form c.in_default.not-Defer)
-    ∙ all_one (word_count a.image.now) a.depth a.pc a.facts (shape_is a.form))
+    (ap (all_passes (word_count a.image.now) a.p.depth a.p.pc a.p.facts) (itself a.image.now a.p.pc a.p.facts a.form c.in_default.not-Defer)
+    ∙ all_one (word_count a.image.now) a.p.depth a.p.pc a.p.facts (shape_is a.form))
     c.pass_word.ensures

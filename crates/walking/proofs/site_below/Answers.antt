@@ -2,7 +2,12 @@
 use native.Mathlib.Omega.{arith}
 use borrow.Author.Tests.{lt-ltb, le-ltb}
 use Rattle.passing.proofs.Passing.{small_depth}
-use Rattle.walking.proofs.Returning.{asked_last, marked_last}
+use Rattle.walking.proofs.Returning.{asked_last, marked_last, sub_last}
+use mathlib.Core.Path.{sym, subst}
+use Prim.Native.Nat.{◌+◌, ◌*◌}
+use Rattle.machine.specs.Step.{word_count}
+use Rattle.marks.specs.Marks.{set_size}
+use Rattle.walking.specs.Walking.{site_at, LastBelow}
 use Rattle.walking.proofs.site_below.Goals as goal
 
 pub asked_below-requires : goal.asked_below-requires
@@ -39,4 +44,6 @@ last-requires c =
 pub returns : goal.returns
 returns c =
     let a = c.args in
-    marked_last a.image.now a.asked.now a.marks.now a.depth a.a c.if-asked-gt0.false c.last.ensures
+    let first = 3 * set_size + a.depth * word_count a.image.now in
+    subst (LastBelow (site_at a.image.now a.asked.now a.marks.now a.depth) a.a) (sym (sub_last first c.checked_sub.result c.last.result c.checked_sub.ensures))
+    (marked_last a.image.now a.asked.now a.marks.now a.depth a.a c.if-asked-gt0.false c.last.ensures)
