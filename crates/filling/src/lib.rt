@@ -1,23 +1,14 @@
 // The lent table filled: sweeps from the reset cell until one changes nothing.
 #![tactic(auto)]
 
-ghost use Rattle.std.specs.Prelude.{◌≡◌, ◌*◌, ◌≤◌, ◌<◌, length, replicate};
+ghost use Rattle.std.specs.Prelude.{◌≡◌, ◌*◌, ◌≤◌, ◌<◌, length};
 ghost use Rattle.machine.specs.Step.{word_count};
 ghost use Rattle.facts.specs.Record.{record_size, depths};
 ghost use Rattle.transfer.specs.Passes.{start_table, sweep_bound, least_table, sweeps_of};
 ghost use Rattle.marks.specs.Marks.{Agenda};
 ghost use Rattle.passing.specs.Passing.{Laid};
 
-// Makes every byte zero.
-fn clear(table: &mut [u8])
-    ensures { table.new ≡ replicate (length table.old) 0 }
-{
-    let mut i = 0;
-    while i < table.len() {
-        table[i] = 0;
-        i += 1;
-    }
-}
+use passing::Reached;
 
 // Sweeps until one changes nothing. Tells how many changed the table.
 fn sweep_all(image: &[u8], table: &mut [u8], marks: &mut [u64], hubs: &mut [u8]) -> usize
@@ -36,9 +27,14 @@ pub fn fill(image: &[u8], table: &mut [u8]) -> usize
     requires { (0 < word_count image.now) × (word_count image.now ≤ 8192) × (length table.old ≡ record_size * (depths * word_count image.now)) }
     ensures { (table.new ≡ least_table image.now) × (result ≡ sweeps_of image.now) × (result ≤ sweep_bound image.now) }
 {
-    clear(table);
+    table.fill(0);
     let mut marks = [0u64; marks::WORDS];
-    let mut hubs = [0u8; 144];
-    passing::pass(image, &image[..0], table, &mut marks, 0, 0, [0; 11]);
+    let mut hubs = [0u8; facts::WORD_RECORDS];
+    let reset = Reached {
+        depth: 0,
+        pc: 0,
+        facts: [0; 11],
+    };
+    passing::pass(image, &image[..0], table, &mut marks, reset);
     sweep_all(image, table, &mut marks, &mut hubs)
 }

@@ -11,9 +11,21 @@ ghost use Rattle.marks.specs.Marks.{set_size, mark_words, is_returning, is_born,
 ghost use Rattle.passing.specs.Passing.{Laid, Ready, Passed};
 ghost use Rattle.sweeps.specs.Turns.{Place, Read, OneDown, Told, Begun, HubKept, Turned, TurnDone, SweepDone};
 
+use callers::Asked;
 use facts::Cell;
 use forms::Form;
 use marks::{BORN, CHANGED, RETURNING};
+use passing::Reached;
+
+// A cell whose turn it is: its number, depth and address, its record, and the form of its word.
+#[derive(Clone, Copy)]
+struct Due {
+    i: usize,
+    depth: usize,
+    pc: usize,
+    c: Cell,
+    form: Form,
+}
 
 // Puts a number into a set, or takes it out.
 fn tell(set: &mut [u64], i: usize, on: bool)
@@ -22,71 +34,58 @@ fn tell(set: &mut [u64], i: usize, on: bool)
 {
     if on {
         bitset::put(set, i);
-        return;
+    } else {
+        bitset::take(set, i);
     }
-    bitset::take(set, i);
 }
 
-// Does cell i return, with this record and its word?
-fn returns(image: &[u8], i: usize, depth: usize, pc: usize, c: Cell, form: Form) -> bool
-    requires { Place image.now i depth pc × FineCell c × Read image.now pc form }
-    ensures { result ≡ returns_at image.now i c }
+// Does the cell return?
+fn returns(image: &[u8], t: Due) -> bool
+    requires { Place image.now t.i t.depth t.pc × FineCell t.c × Read image.now t.pc t.form }
+    ensures { result ≡ returns_at image.now t.i t.c }
 {
-    if !c.reached {
+    if !t.c.reached {
         return false;
     }
-    if depth == 0 {
+    if t.depth == 0 {
         return false;
     }
-    let facts = c.facts;
-    callers::performs(image, pc, facts, form, true)
+    callers::performs(image, t.pc, t.c.facts, t.form, Asked::Return)
 }
 
-// The marks as the turn of cell i begins. Says whether its record changed since its last turn.
-fn begin(
-    image: &[u8],
-    marks: &mut [u64],
-    i: usize,
-    depth: usize,
-    pc: usize,
-    c: Cell,
-    form: Form,
-) -> bool
-    requires { (length marks.old ≡ mark_words) × Place image.now i depth pc × FineCell c × Read image.now pc form }
-    ensures { Begun image.now i c marks.old marks.new result }
+// The marks as the turn begins. Says whether the cell's record changed since its last turn.
+fn begin(image: &[u8], marks: &mut [u64], t: Due) -> bool
+    requires { (length marks.old ≡ mark_words) × Place image.now t.i t.depth t.pc × FineCell t.c × Read image.now t.pc t.form }
+    ensures { Begun image.now t.i t.c marks.old marks.new result }
 {
+    let i = t.i;
     bitset::take(marks, i);
     if !bitset::has(marks, CHANGED + i) {
         return false;
     }
     bitset::take(marks, CHANGED + i);
-    tell(marks, RETURNING + i, returns(image, i, depth, pc, c, form));
+    tell(marks, RETURNING + i, returns(image, t));
     true
 }
 
-// What cell i passes on by its own record, if that changed.
-fn own_turn(
-    image: &[u8],
-    table: &mut [u8],
-    marks: &mut [u64],
-    i: usize,
-    depth: usize,
-    pc: usize,
-    c: Cell,
-    form: Form,
-    changed: bool,
-) -> bool
-    requires { Ready image.now [] table.old marks.old × Place image.now i depth pc × FineCell c × Read image.now pc form }
-    ensures { Passed image.now [] depth table.old marks.old (pick changed (own_passes image.now i c) []) table.new marks.new result }
+// What the cell passes on by its own record, if that changed.
+fn own_turn(image: &[u8], table: &mut [u8], marks: &mut [u64], t: Due, changed: bool) -> bool
+    requires { Ready image.now [] table.old marks.old × Place image.now t.i t.depth t.pc × FineCell t.c × Read image.now t.pc t.form }
+    ensures { Passed image.now [] t.depth table.old marks.old (pick changed (own_passes image.now t.i t.c) []) table.new marks.new result }
 {
     if !changed {
         return false;
     }
-    if !c.reached {
+    if !t.c.reached {
         return false;
     }
-    let facts = c.facts;
-    walking::pass_words(image, &image[..0], table, marks, depth, pc, facts, form)
+    let facts = t.c.facts;
+    let p = Reached {
+        depth: t.depth,
+        pc: t.pc,
+        facts,
+    };
+    walking::pass_words(image, &image[..0], table, marks, p, t.form)
 }
 
 // Does the address after every call site at a depth hold what the hub there holds, and with it c?
@@ -173,14 +172,21 @@ fn turn(image: &[u8], table: &mut [u8], marks: &mut [u64], hubs: &mut [u8], i: u
     let pc = i % words;
     let c = cells::load(table, i);
     let form = processor::form_at(image, pc);
-    let changed = begin(image, marks, i, depth, pc, c, form);
-    let on = own_turn(image, table, marks, i, depth, pc, c, form, changed);
-    let facts = c.facts;
-    let back = go_back(image, table, marks, hubs, i, depth, facts);
+    let t = Due {
+        i,
+        depth,
+        pc,
+        c,
+        form,
+    };
+    let changed = begin(image, marks, t);
+    let on = own_turn(image, table, marks, t, changed);
+    let back = go_back(image, table, marks, hubs, i, depth, c.facts);
     on | back
 }
 
-// The turn of every cell that is due, in order. Says whether the table changed.
+// The turn of every cell that is due, in order. Says whether the table changed. `next` answers `size` where no more cell is
+// due, and so the loop ends by it: a Some and a None would have to be made of that first.
 pub fn sweep(image: &[u8], table: &mut [u8], marks: &mut [u64], hubs: &mut [u8]) -> bool
     requires { Laid image.now table.old × Agenda image.now table.old marks.old hubs.old }
     ensures { SweepDone image.now table.old table.new marks.new hubs.new result }
@@ -189,8 +195,7 @@ pub fn sweep(image: &[u8], table: &mut [u8], marks: &mut [u64], hubs: &mut [u8])
     let mut changed = false;
     let mut i = bitset::next(marks, 0, size);
     while i < size {
-        let r = turn(image, table, marks, hubs, i);
-        changed = changed | r;
+        changed |= turn(image, table, marks, hubs, i);
         i = bitset::next(marks, i + 1, size);
     }
     changed

@@ -11,16 +11,16 @@ pub returns-then-not-changed : goal.returns-then-not-changed
 returns-then-not-changed c =
     let start = c in
     let a = start.args in
-    passed_not a.image.now [] a.depth a.table.now a.marks.now a.changed (own_passes a.image.now a.i a.c) (c.if-not-changed.true) start.requires.0
+    passed_not a.image.now [] a.t.depth a.table.now a.marks.now a.changed (own_passes a.image.now a.t.i a.t.c) (c.if-not-changed.true) start.requires.0
 
-pub returns-then-not-c : goal.returns-then-not-c
-returns-then-not-c c =
+pub returns-then-not-t : goal.returns-then-not-t
+returns-then-not-t c =
     let start = c in
     let a = start.args in
-    passed_as (own_unreached a.image.now a.i a.depth a.pc start.requires.1 a.c c.if-not-c.true a.changed) (passed_none start.requires.0)
+    passed_as (own_unreached a.image.now a.t.i a.t.depth a.t.pc start.requires.1 a.t.c c.if-not-t.true a.changed) (passed_none start.requires.0)
 
 pub returns : goal.returns
 returns c =
     let start = c in
     let a = start.args in
-    passed_as (own_told a.image.now a.i a.depth a.pc start.requires.1 a.c a.changed (ap not c.if-not-changed.false) c.if-not-c.false start.requires.3) c.pass_words.ensures
+    passed_as (own_told a.image.now a.t.i a.t.depth a.t.pc start.requires.1 a.t.c a.changed (ap not c.if-not-changed.false) c.if-not-t.false start.requires.3) c.pass_words.ensures

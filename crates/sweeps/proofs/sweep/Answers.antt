@@ -11,8 +11,8 @@ loop-i-init c =
     let a = start.args in
     round_begins a.image.now (λ k. (c.type_inv.image k).fits) a.table.now start.requires.0 start.requires.1 c.next-i.ensures
 
-pub turn-r-requires : goal.turn-r-requires
-turn-r-requires c =
+pub turn-changed-requires : goal.turn-changed-requires
+turn-changed-requires c =
     let p = c.loop-i in
     (p.invariant.laid, p.invariant.agenda, c.loop-i-test.true)
 
@@ -23,7 +23,7 @@ pub loop-i-preserved : goal.loop-i-preserved
 loop-i-preserved c =
     let a = c.args in
     let p = c.loop-i in
-    round_next a.image.now (λ k. (c.type_inv.image k).fits) a.table.now c.loop-i-test.true p.invariant c.turn-r.ensures c.next-i-in-loop-i.ensures
+    round_next a.image.now (λ k. (c.type_inv.image k).fits) a.table.now c.loop-i-test.true p.invariant c.turn-changed.ensures c.next-i-in-loop-i.ensures
 
 pub shape_of-table : goal.shape_of-table
 shape_of-table c = c.loop-i.invariant.laid.layout.long ∙ sym c.requires.0.layout.long

@@ -5,5 +5,5 @@ use Rattle.sweeps.proofs.tell.Goals as goal
 pub returns-then-on : goal.returns-then-on
 returns-then-on c = told_in c.if-on.true c.put.ensures
 
-pub returns : goal.returns
-returns c = told_out c.if-on.false c.take.ensures
+pub returns-else-on : goal.returns-else-on
+returns-else-on c = told_out c.if-on.false c.take.ensures
