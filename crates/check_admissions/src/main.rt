@@ -2,8 +2,6 @@
 // line with the answer, the count of sweeps and the digest of the table.
 #![tactic(auto)]
 
-ghost use Rattle.std.specs.Prelude.{◌≤◌, length};
-
 use admission::AdmitAnswer;
 
 fn print_answer(a: AdmitAnswer) {
@@ -41,14 +39,8 @@ fn report(image: &[u8], map: &[u8], table: &mut [u8]) {
     print_answer(answer);
     io::write_all(1, b" sweeps=");
     io::print_decimal(1, answered.sweeps as u64);
-    io::write_all(1, b" table_digest=");
-    io::print_hex(1, digest::add(digest::none(), table), 16);
+    harness::print_digest(b" table_digest=", table);
     io::write_all(1, b"\n");
-}
-
-// Room for the longest table.
-fn table_buffer() -> [u8; 1179792] {
-    [0; 1179792]
 }
 
 // Lends as much of the room as the case asks for.
@@ -57,16 +49,12 @@ fn lend(image: &[u8], map: &[u8], room: &mut [u8], count: usize) {
     report(image, map, &mut room[..n]);
 }
 
-// An admission whose line begins at a place: 'admission', its name, then the fields image, map, table.
-fn case(s: &[u8], from: usize)
-    requires { from ≤ length s.now }
-{
-    let name = cases::after(s, from, b' ');
-    let end = cases::after(s, name, b' ');
-    io::write_all(1, &s[from..end]);
+// An admission whose line a text begins with: 'admission', its name, then the fields image, map, table.
+fn case(s: &[u8]) {
+    let end = harness::print_title(s);
     let mut image = io::large_buffer();
     let mut map = io::buffer();
-    let mut table = table_buffer();
+    let mut table = harness::table_buffer();
     let at1 = cases::after(s, end, b'=');
     let image_count = cases::expand(s, at1, &mut image);
     let at2 = cases::after(s, at1, b'=');
@@ -80,17 +68,6 @@ fn case(s: &[u8], from: usize)
     );
 }
 
-// Each line of the text.
-fn cases(s: &[u8]) {
-    let mut at = 0;
-    while at < s.len() {
-        case(s, at);
-        at = cases::after(s, at, b'\n');
-    }
-}
-
 fn main() {
-    let mut input = io::large_buffer();
-    let n = io::read_full(0, &mut input);
-    cases(&input[..n]);
+    harness::each_case(case);
 }

@@ -1,15 +1,9 @@
 // Makes the bench's line for each line of standard input, the map and the image as docs/src/expect/bench.txt has them.
 #![tactic(auto)]
 
-ghost use Rattle.std.specs.Prelude.{◌≤◌, length};
-
-// A case whose line begins at a place: 'bench', its name, then the fields map, image.
-fn case(s: &[u8], from: usize)
-    requires { from ≤ length s.now }
-{
-    let name = cases::after(s, from, b' ');
-    let end = cases::after(s, name, b' ');
-    io::write_all(1, &s[from..end]);
+// A case whose line a text begins with: 'bench', its name, then the fields map, image.
+fn case(s: &[u8]) {
+    let end = harness::print_title(s);
     io::write_all(1, b"line=");
     let mut input = io::large_buffer();
     let at1 = cases::after(s, end, b'=');
@@ -22,17 +16,6 @@ fn case(s: &[u8], from: usize)
     io::write_all(1, &out[..m]);
 }
 
-// Each line of the text.
-fn cases(s: &[u8]) {
-    let mut at = 0;
-    while at < s.len() {
-        case(s, at);
-        at = cases::after(s, at, b'\n');
-    }
-}
-
 fn main() {
-    let mut input = io::large_buffer();
-    let n = io::read_full(0, &mut input);
-    cases(&input[..n]);
+    harness::each_case(case);
 }

@@ -2,33 +2,9 @@
 // lent. Prints the numbers that come out in hexadecimal, and the digests of the lent bytes afterwards.
 #![tactic(auto)]
 
-ghost use Rattle.std.specs.Prelude.{◌≡◌, ◌<◌, ◌≤◌, length};
+ghost use Rattle.std.specs.Prelude.{◌≤◌, length};
 
-#[derive(Clone, Copy)]
-struct Tally {
-    valid: usize,
-    equal: usize,
-    sum: u64,
-}
-
-fn low(n: u64) -> u8 {
-    (n % 256) as u8
-}
-
-// The digest goes on over the eight bytes of a number, low byte first.
-fn digested(sum: u64, n: u64) -> u64 {
-    let bytes = [
-        low(n),
-        low(n / 256),
-        low(n / 65536),
-        low(n / 16777216),
-        low(n / 4294967296),
-        low(n / 1099511627776),
-        low(n / 281474976710656),
-        low(n / 72057594037927936),
-    ];
-    digest::add(sum, &bytes)
-}
+use harness::Tally;
 
 // Writes the opcode and the fields that a number has.
 fn again(n: u64) -> u64 {
@@ -40,26 +16,13 @@ fn again(n: u64) -> u64 {
     )
 }
 
-fn taken(t: Tally, bits: u16) -> Tally {
-    let n = riptide::riptide_read_word(bits);
-    let valid = if n == 22 { 0 } else { 1 };
-    let equal = if again(n) == bits as u64 * 256 { 1 } else { 0 };
-    Tally {
-        valid: std::num::wrapping_add_usize(t.valid, valid),
-        equal: std::num::wrapping_add_usize(t.equal, equal),
-        sum: digested(t.sum, n),
-    }
-}
-
 // Reads the words from first to last, and writes each again.
 fn read(first: u16, last: u16) -> Tally {
-    let mut t = Tally {
-        valid: 0,
-        equal: 0,
-        sum: digest::none(),
-    };
+    let mut t = Tally::none();
     for bits in first..=last {
-        t = taken(t, bits);
+        let n = riptide::riptide_read_word(bits);
+        let equal = again(n) == u64::from(bits) * 256;
+        t = t.with(n != 22, equal, &n.to_le_bytes());
     }
     t
 }
@@ -67,11 +30,6 @@ fn read(first: u16, last: u16) -> Tally {
 fn print_number(n: u64) {
     io::write_all(1, b"number=");
     io::print_hex(1, n, 16);
-}
-
-fn print_digest(name: &[u8], bytes: &[u8]) {
-    io::write_all(1, name);
-    io::print_hex(1, digest::add(digest::none(), bytes), 16);
 }
 
 // A number of the text as a word.
@@ -124,7 +82,7 @@ fn count(s: &[u8], at: usize)
 
 fn reset(state: &mut [u8]) {
     print_number(riptide::riptide_reset(state));
-    print_digest(b" state_digest=", state);
+    harness::print_digest(b" state_digest=", state);
 }
 
 fn state(s: &[u8], at: usize)
@@ -139,12 +97,7 @@ fn state(s: &[u8], at: usize)
 fn admit_over(image: &[u8], map: &[u8], table: &mut [u8]) {
     digest::repeat(165, 165, table);
     print_number(riptide::riptide_admit(image, map, table));
-    print_digest(b" table_digest=", table);
-}
-
-// Room for the longest table.
-fn table_buffer() -> [u8; 1179792] {
-    [0; 1179792]
+    harness::print_digest(b" table_digest=", table);
 }
 
 // Lends as much of the room as the case asks for.
@@ -158,7 +111,7 @@ fn admit(s: &[u8], at: usize)
 {
     let mut image = io::large_buffer();
     let mut map = io::buffer();
-    let mut table = table_buffer();
+    let mut table = harness::table_buffer();
     let image_count = cases::expand(s, at, &mut image);
     let at2 = cases::after(s, at, b'=');
     let map_count = cases::expand(s, at2, &mut map);
@@ -174,7 +127,7 @@ fn admit(s: &[u8], at: usize)
 // The table comes along with the case, and is only read.
 fn hold_over(image: &[u8], map: &[u8], table: &[u8]) {
     print_number(riptide::riptide_check(image, map, table));
-    print_digest(b" table_digest=", table);
+    harness::print_digest(b" table_digest=", table);
 }
 
 fn hold(s: &[u8], at: usize)
@@ -207,15 +160,8 @@ fn foretell(s: &[u8], at: usize)
 fn run_over(image: &[u8], map: &[u8], state: &mut [u8], recording: &[u8], trace: &mut [u8]) {
     digest::repeat(165, 165, trace);
     print_number(riptide::riptide_run(image, map, state, recording, trace));
-    print_digest(b" state_digest=", state);
-    print_digest(b" trace_digest=", trace);
-}
-
-// Room for the longest trace.
-fn trace_buffer() -> [u8; 262144]
-    ensures { 262144 ≡ length result }
-{
-    [0; 262144]
+    harness::print_digest(b" state_digest=", state);
+    harness::print_digest(b" trace_digest=", trace);
 }
 
 fn run(s: &[u8], at: usize)
@@ -225,7 +171,7 @@ fn run(s: &[u8], at: usize)
     let mut map = io::buffer();
     let mut state = io::buffer();
     let mut recording = io::large_buffer();
-    let mut trace = trace_buffer();
+    let mut trace = [0; 262144];
     let image_count = cases::expand(s, at, &mut image);
     let at2 = cases::after(s, at, b'=');
     let map_count = cases::expand(s, at2, &mut map);
@@ -248,41 +194,25 @@ fn run(s: &[u8], at: usize)
 fn list_over(image: &[u8], page: &mut [u8]) {
     digest::repeat(165, 165, page);
     print_number(riptide::riptide_list(image, page));
-    print_digest(b" page_digest=", page);
-}
-
-// Room for the longest page, and a line more.
-fn page_buffer() -> [u8; 262176]
-    ensures { 262176 ≡ length result }
-{
-    [0; 262176]
+    harness::print_digest(b" page_digest=", page);
 }
 
 fn list(s: &[u8], at: usize)
     requires { at ≤ length s.now }
 {
     let mut image = io::large_buffer();
-    let mut page = page_buffer();
+    let mut page = [0; 262176];
     let image_count = cases::expand(s, at, &mut image);
     let at2 = cases::after(s, at, b'=');
     let page_count = cases::within(cases::number(s, at2), &page);
     list_over(&image[..image_count], &mut page[..page_count]);
 }
 
-// A byte of the words that rise from a first one.
-fn rising_byte(first: u16, k: usize) -> u8 {
-    let word = first as usize + k / 2 % 65536;
-    if k % 2 == 0 {
-        return (word / 256 % 256) as u8;
-    }
-    (word % 256) as u8
-}
-
+// The words that rise from a first one.
 fn rise(first: u16, image: &mut [u8]) {
-    let mut k = 0;
-    while k < image.len() {
-        image[k] = rising_byte(first, k);
-        k += 1;
+    for (k, byte) in image.iter_mut().enumerate() {
+        let [high, low] = first.wrapping_add((k / 2 % 65536) as u16).to_be_bytes();
+        *byte = if k % 2 == 0 { high } else { low };
     }
 }
 
@@ -314,7 +244,7 @@ fn tail(s: &[u8], at: usize)
     requires { at ≤ length s.now }
 {
     let mut image = io::large_buffer();
-    let mut page = page_buffer();
+    let mut page = [0; 262176];
     let image_count = cases::expand(s, at, &mut image);
     let at2 = cases::after(s, at, b'=');
     let page_count = cases::within(image_count / 2 * 32, &page);
@@ -345,28 +275,14 @@ fn call(kind: u8, s: &[u8], at: usize)
     }
 }
 
-// A call whose line begins at a place: its kind, its name, then its fields.
-fn case(s: &[u8], from: usize)
-    requires { from < length s.now }
-{
-    let name = cases::after(s, from, b' ');
-    let end = cases::after(s, name, b' ');
-    io::write_all(1, &s[from..end]);
-    call(s[from], s, cases::after(s, end, b'='));
+// A call whose line a text begins with: its kind, its name, then its fields.
+fn case(s: &[u8]) {
+    let end = harness::print_title(s);
+    let kind = s.first().copied().unwrap_or(0);
+    call(kind, s, cases::after(s, end, b'='));
     io::write_all(1, b"\n");
 }
 
-// Each line of the text.
-fn cases(s: &[u8]) {
-    let mut at = 0;
-    while at < s.len() {
-        case(s, at);
-        at = cases::after(s, at, b'\n');
-    }
-}
-
 fn main() {
-    let mut input = io::large_buffer();
-    let n = io::read_full(0, &mut input);
-    cases(&input[..n]);
+    harness::each_case(case);
 }

@@ -2,13 +2,7 @@
 // the answer, the state afterwards, and the digests of state and trace.
 #![tactic(auto)]
 
-ghost use Rattle.std.specs.Prelude.{◌≡◌, ◌≤◌, length};
-
 use emulator::RunAnswer;
-
-fn wide(x: u8) -> u64 {
-    x as u64
-}
 
 fn print_answer(a: RunAnswer) {
     match a {
@@ -29,16 +23,9 @@ fn print_answer(a: RunAnswer) {
 
 // Two hexadecimal digits for each byte.
 fn print_bytes(bytes: &[u8]) {
-    let mut i = 0;
-    while i < bytes.len() {
-        io::print_hex(1, wide(bytes[i]), 2);
-        i += 1;
+    for byte in bytes {
+        io::print_hex(1, u64::from(*byte), 2);
     }
-}
-
-fn print_digest(name: &[u8], bytes: &[u8]) {
-    io::write_all(1, name);
-    io::print_hex(1, digest::add(digest::none(), bytes), 16);
 }
 
 // Runs, and prints what the run gives. The lent trace is a5 throughout before.
@@ -47,30 +34,19 @@ fn report(image: &[u8], map: &[u8], state: &mut [u8], recording: &[u8], trace: &
     print_answer(running::run(image, map, state, recording, trace));
     io::write_all(1, b" state_after=");
     print_bytes(state);
-    print_digest(b" state_digest=", state);
-    print_digest(b" trace_digest=", trace);
+    harness::print_digest(b" state_digest=", state);
+    harness::print_digest(b" trace_digest=", trace);
     io::write_all(1, b"\n");
 }
 
-// Room for the longest trace.
-fn trace_buffer() -> [u8; 262144]
-    ensures { 262144 ≡ length result }
-{
-    [0; 262144]
-}
-
-// A run whose line begins at a place: 'run', its name, then the fields image, map, state, recording, trace.
-fn case(s: &[u8], from: usize)
-    requires { from ≤ length s.now }
-{
-    let name = cases::after(s, from, b' ');
-    let end = cases::after(s, name, b' ');
-    io::write_all(1, &s[from..end]);
+// A run whose line a text begins with: 'run', its name, then the fields image, map, state, recording, trace.
+fn case(s: &[u8]) {
+    let end = harness::print_title(s);
     let mut image = io::large_buffer();
     let mut map = io::buffer();
     let mut state = io::buffer();
     let mut recording = io::large_buffer();
-    let mut trace = trace_buffer();
+    let mut trace = [0; 262144];
     let at1 = cases::after(s, end, b'=');
     let image_count = cases::expand(s, at1, &mut image);
     let at2 = cases::after(s, at1, b'=');
@@ -90,17 +66,6 @@ fn case(s: &[u8], from: usize)
     );
 }
 
-// Each line of the text.
-fn cases(s: &[u8]) {
-    let mut at = 0;
-    while at < s.len() {
-        case(s, at);
-        at = cases::after(s, at, b'\n');
-    }
-}
-
 fn main() {
-    let mut input = io::large_buffer();
-    let n = io::read_full(0, &mut input);
-    cases(&input[..n]);
+    harness::each_case(case);
 }

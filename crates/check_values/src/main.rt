@@ -6,15 +6,7 @@
 // s the stop number, w the data written.
 #![tactic(auto)]
 
-ghost use Rattle.std.specs.Prelude.{◌≡◌, ◌<◌, length};
-
 use emulator::RunAnswer;
-
-fn wide(x: u8) -> u64
-    ensures { result < 256 }
-{
-    x as u64
-}
 
 // Where a named byte stands among the state's 36.
 fn place_of(name: u8) -> usize {
@@ -39,21 +31,15 @@ fn place_of(name: u8) -> usize {
 }
 
 fn byte_at(b: &[u8], at: usize) -> u8 {
-    if at < b.len() { b[at] } else { 0 }
-}
-
-fn put(b: &mut [u8], at: usize, value: u8) {
-    if at < b.len() {
-        b[at] = value;
-    }
+    b.get(at).copied().unwrap_or(0)
 }
 
 // Sets the bytes that a list of names and values gives.
 fn set(state: &mut [u8], given: &[u8]) {
-    let mut i = 0;
-    while i < given.len() {
-        put(state, place_of(given[i]), byte_at(given, i + 1));
-        i += 2;
+    for pair in given.chunks_exact(2) {
+        if let Some(byte) = state.get_mut(place_of(pair[0])) {
+            *byte = pair[1];
+        }
     }
 }
 
@@ -64,12 +50,12 @@ fn item(name: &[u8], value: u64) {
 
 // The number of two bytes, low byte first.
 fn number(b: &[u8], low: usize, high: usize) -> u64 {
-    wide(byte_at(b, low)) + 256 * wide(byte_at(b, high))
+    u64::from(byte_at(b, low)) + 256 * u64::from(byte_at(b, high))
 }
 
 fn hex_item(name: &[u8], value: u8) {
     io::write_all(1, name);
-    io::print_hex(1, wide(value), 2);
+    io::print_hex(1, u64::from(value), 2);
 }
 
 // The data that the step's record has, where its kind is that of data.
@@ -117,24 +103,16 @@ fn print_one(name: u8, state: &[u8], trace: &[u8]) {
 }
 
 fn print_all(asked: &[u8], state: &[u8], trace: &[u8]) {
-    let mut i = 0;
-    while i < asked.len() {
-        print_one(asked[i], state, trace);
-        i += 1;
+    for name in asked {
+        print_one(*name, state, trace);
     }
-}
-
-fn full_image() -> [u8; 16384]
-    ensures { 16384 ≡ length result }
-{
-    [0; 16384]
 }
 
 // Runs a pair on an image that has the word everywhere, and prints the line.
 fn value(title: &[u8], word: [u8; 2], given: &[u8], pair: [u8; 2], asked: &[u8]) {
     io::write_all(1, title);
     io::write_all(1, b":");
-    let mut image = full_image();
+    let mut image = [0; 16384];
     digest::repeat(word[0], word[1], &mut image);
     let map = [255u8; 128];
     let mut state = [0u8; 36];

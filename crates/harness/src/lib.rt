@@ -1,21 +1,43 @@
 // What the programs that the gate runs share: their lines of input, the digests that they print, a count of words.
 #![tactic(auto)]
 
-ghost use Rattle.std.specs.Prelude.{◌≡◌, ℕ, ◌+◌, ◌%◌, ◌^◌, ◌<◌, cond, length};
+ghost use Rattle.std.specs.Prelude.{◌≡◌, ◌+◌, ◌%◌, ◌^◌, ◌≤◌, cond, length};
+ghost use Rattle.std.specs.Fn.{CalledAt};
 ghost use Rattle.std.specs.List.{FoldsTo};
+ghost use Rattle.cases.specs.Cases.{place_behind};
 ghost use Rattle.digest.specs.Digest.{empty_digest, digest_of};
-ghost use Rattle.harness.specs.Lines.{line_places};
+ghost use Rattle.harness.specs.Lines.{line_texts};
 
-// Calls `case` at the place of each line, in order.
-pub fn each_line<F: FnMut(usize)>(text: &[u8], mut case: F)
-    requires { (state : F) (at : ℕ) → at < length text.now → F.pre state at }
-    ensures { (last : F) × FoldsTo (λ p at q. F.step p at tt q) case (line_places text.now) last }
+// Calls `case` with the text from each line on, in order.
+pub fn each_line<F: FnMut(&[u8])>(text: &[u8], mut case: F)
+    requires { F.IsAlwaysCallable case }
+    ensures { (last : F) × FoldsTo (λ p rest q. CalledAt F.FnMut p rest tt q) case (line_texts text.now) last }
 {
-    let mut at = 0;
-    while at < text.len() {
-        case(at);
-        at = cases::after(text, at, b'\n');
+    let mut rest = text;
+    while !rest.is_empty() {
+        case(rest);
+        rest = &rest[cases::after(rest, 0, b'\n')..];
     }
+}
+
+// Calls `case` with the text from each line of standard input on.
+pub fn each_case<F: FnMut(&[u8])>(case: F)
+    requires { F.IsAlwaysCallable case }
+{
+    let mut input = io::large_buffer();
+    let n = io::read_full(0, &mut input);
+    each_line(&input[..n], case);
+}
+
+// Prints the kind and the name that a line begins with; the place behind them.
+pub fn print_title(line: &[u8]) -> usize
+    ensures place { result ≡ place_behind line.now (place_behind line.now 0 32) 32 }
+    ensures within { result ≤ length line.now }
+{
+    let name = cases::after(line, 0, b' ');
+    let end = cases::after(line, name, b' ');
+    io::write_all(1, &line[..end]);
+    end
 }
 
 // Prints a name and the digest of some bytes.

@@ -1,26 +1,37 @@
--- `harness::each_line` meets its contract: the calls that are left, behind those made, are at all places. Assumes nothing.
-use Prim.Native.Nat.{◌-◌}
-use mathlib.Core.Path.{refl}
+-- `harness::each_line` meets its contract: the calls that are left, behind those made, are with all texts. Assumes nothing.
+use Prim.Native.Nat.{ℕ, ◌-◌, ◌<◌, ◌≤◌}
+use mathlib.Core.Path.{refl, ap, subst}
+use mathlib.Core.List.{List}
 use native.Mathlib.Omega.{arith}
 use lib.ListN.{length}
+use Rattle.std.proofs.Common.{rules, tests, of_calls}
+use Rattle.std.specs.Fn.{CalledAt}
+use Rattle.std.specs.List.{FoldsTo}
+use Rattle.cases.proofs.Laws.{the_tail}
+use Rattle.harness.specs.Lines.{texts_from}
 use Rattle.harness.proofs.Laws.{line_more, line_last}
 use Rattle.harness.proofs.each_line.Goals as goal
 
-pub loop-at-init : goal.loop-at-init
-loop-at-init g c = (length c.args.text.now, omega arith, omega arith, λ last h. h)
-
-pub loop-at-preserved : goal.loop-at-preserved
-loop-at-preserved g c =
-    let at = c.loop-at in
-    let n = at.invariant.0 in
-    let next = c.after-at.ensures in (
-      n - 1,
-      omega (arith, next.2 c.loop-at-test.true, at.invariant.1),
-      next.1,
-      λ last h. at.invariant.3 last (line_more c.args.text.now at.at _ at.case last c.case.new.self n c.after-at.result c.loop-at-test.true (omega (arith, at.invariant.1, c.loop-at-test.true)) next.3 c.case.ensures h),
+pub loop-rest-preserved : goal.loop-rest-preserved
+loop-rest-preserved g c =
+    let at = c.loop-rest in
+    let rest = at.rest.now in
+    let n = at.invariant.1.0 in
+    let next = c.after.result in
+    let some : 0 < length rest = search (rules, tests) in (
+      search of_calls,
+      (
+        n - 1,
+        omega (arith, c.after.ensures.2 some, at.invariant.1.1, ap length (the_tail next rest)),
+        λ last h.
+            at.invariant.1.2 last
+            (line_more rest _ at.case last c.case.new.self n next some (omega (arith, some, at.invariant.1.1)) c.after.ensures.3 (record { shown = at.rest; shows = refl; called = c.case.ensures })
+            (subst (λ (l : List ℕ). FoldsTo (λ p rest q. CalledAt g.F.FnMut p rest tt q) c.case.new.self (texts_from (n - 1) l) last) (the_tail next rest) h)),
+      ),
     )
 
 pub returns : goal.returns
 returns g c =
-    let at = c.loop-at in
-    (at.case, at.invariant.3 at.case (line_last c.args.text.now at.at _ at.case at.case at.invariant.0 c.loop-at-test.false refl))
+    let at = c.loop-rest in
+    let none : length at.rest.now ≤ 0 = search (rules, tests) in
+    (at.case, at.invariant.1.2 at.case (line_last at.rest.now _ at.case at.case at.invariant.1.0 none refl))

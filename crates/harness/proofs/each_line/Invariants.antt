@@ -1,12 +1,15 @@
-use Rattle.std.proofs.Common.{ℕ, ◌+◌, ◌-◌, ◌≤◌, length}
+use Rattle.std.proofs.Common.{ℕ, ◌≤◌, length}
+use Rattle.std.specs.Fn.{CalledAt}
 use Rattle.std.specs.List.{FoldsTo}
-use Rattle.harness.specs.Lines.{places_from, line_places}
+use Rattle.harness.specs.Lines.{texts_from, line_texts}
 use Rattle.harness.proofs.each_line.Given as goal
 
-abbrev pub invariant-loop-at : goal.invariant-loop-at
-invariant-loop-at g l =
-    (n : ℕ) × (length l.text ≤ l.at + n) × (l.at ≤ length l.text)
-    × ((last : _) → FoldsTo (λ p at q. goal.F-step g p at tt q) l.case (places_from n l.text l.at) last → FoldsTo (λ p at q. goal.F-step g p at tt q) l.fn.case (line_places l.text) last)
+abbrev pub invariant-loop-rest : goal.invariant-loop-rest
+invariant-loop-rest g l =
+    goal.F-IsAlwaysCallable g l.case
+    × ((n : ℕ) × (length l.rest ≤ n)
+    × ((last : _) → FoldsTo (λ p rest q. CalledAt g.F.FnMut p rest tt q) l.case (texts_from n l.rest) last
+    → FoldsTo (λ p rest q. CalledAt g.F.FnMut p rest tt q) l.fn.case (line_texts l.fn.text) last))
 
-abbrev pub decreases-loop-at : goal.decreases-loop-at
-decreases-loop-at g l = length l.text - l.at
+abbrev pub decreases-loop-rest : goal.decreases-loop-rest
+decreases-loop-rest g l = length l.rest
