@@ -6,3 +6,4 @@ pub mod Unseen
 pub mod InRange
 pub mod Keeps
 pub mod Return
+pub mod Stops
