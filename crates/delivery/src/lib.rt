@@ -36,7 +36,8 @@ fn went(q: Sequencer, event: Event) -> Effect
     }
 }
 
-// To a register or a bus address, by its slot.
+// To a register or a bus address, by its slot. The result is worked out in each arm: worked out once, before them, it takes 3
+// instructions a step more (of 91, the timing image).
 fn to_slot(
     map: &[u8],
     op: Operation,
@@ -49,12 +50,13 @@ fn to_slot(
     ensures { (l s : List ℕ) → outcome result values.new l s ≡ delivered map.now (operation_number op) x (slot k) (whole q values.old l s) }
 {
     let aux = values[0];
-    let y = machine::act::result(op, aux, x);
     if k < state::ADDRESS {
+        let y = machine::act::result(op, aux, x);
         set_overflow(op, aux, x, values);
         values[k] = y;
         return went(q, Event::Quiet);
     }
+    let y = machine::act::result(op, aux, x);
     if !map::listed(map, k - state::ADDRESS, usize::from(y)) {
         return q.stopped(Stop::Unlisted);
     }

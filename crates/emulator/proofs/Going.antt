@@ -12,14 +12,11 @@ use Rattle.state.specs.declared.State.{State}
 use Rattle.state.specs.State.{EachBelow}
 use Rattle.machine.specs.declared.Sequencer.{Sequencer}
 use Rattle.machine.specs.declared.Effect.{Effect}
-use Rattle.machine.specs.declared.Event.{Event}
-use Rattle.machine.specs.declared.Event.TheVariants.{Quiet, Address, Data, Stopped}
-use Rattle.machine.specs.declared.Stop.{Stop}
-use Rattle.machine.specs.Parts.{whole, outcome, event_stop}
+use Rattle.machine.specs.Parts.{whole, outcome, event_bytes, event_stop}
 use Rattle.machine.specs.Step.{word_count, Step, step_from, stepped}
 use Rattle.machine.proofs.Keeps.{Sound, SoundOutcome, outcome_of, step_sound}
 use Rattle.emulator.specs.Run.{pair_length, pair_count, record_length, record_of, Ran, no_step, after, ran_over, written_over}
-use Rattle.emulator.specs.Parts.{half_length, event_bytes, address_bytes, EventFits, last_state, ran_to, laid_over, Accepted}
+use Rattle.emulator.specs.Parts.{half_length, address_bytes, EventFits, last_state, ran_to, laid_over, Accepted}
 use Rattle.emulator.proofs.Written.{room_from, part_written, written, written_take, written_drop, written_length, written_before}
 
 -- ---- the run by its parts
@@ -245,10 +242,3 @@ module _ {image map recording start : List ℕ} {s₀ : State} {i : ℕ} {trace 
         stops {n} hn stopped =
             ends image map recording start s₀ (i + 1) (last_state (record { q = e.q; count = i + 1; stop = n }) v' l' r') back door.room (next n hn)
             (ran_stopped image map (drop (pair_length * (i + 1)) recording) _ stopped)
-
--- what is no stop has no number
-pub running_on : (e : Event) → ((why : Stop) → e ≡ Stopped why → ⊥) → event_stop e ≡ 0
-running_on Quiet other = refl
-running_on (Address bank address) other = refl
-running_on (Data bank address byte) other = refl
-running_on (Stopped why) other = absurd (other why refl)

@@ -14,9 +14,6 @@ use Rattle.emulator.specs.Run.{Ran, pair_count, record_length, written_over}
 abbrev pub half_length : ℕ
 half_length = 4
 
-abbrev pub event_bytes : Event → List ℕ
-event_bytes e = event_kind e ∷ event_address e ∷ event_written e ∷ event_stop e ∷ []
-
 abbrev pub address_bytes : Sequencer → List ℕ
 address_bytes q = two_bytes q.pc ++ two_bytes (fetch_of q)
 

@@ -2,9 +2,9 @@
 #![tactic(auto)]
 
 ghost use Rattle.std.specs.Prelude.{◌≡◌, ◌≤◌, length};
-ghost use Rattle.machine.specs.Parts.{whole};
+ghost use Rattle.machine.specs.Parts.{whole, event_bytes};
 ghost use Rattle.emulator.specs.Run.{ran_over, written_over, image_fits};
-ghost use Rattle.emulator.specs.Parts.{half_length, event_bytes, address_bytes, EventFits, ran_to, laid_over, Accepted};
+ghost use Rattle.emulator.specs.Parts.{half_length, address_bytes, EventFits, ran_to, laid_over, Accepted};
 
 use machine::{Event, Sequencer};
 

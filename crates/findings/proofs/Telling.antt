@@ -10,7 +10,7 @@ use native.Mathlib.Omega.{arith}
 use Rattle.std.specs.Prelude.{Result, Ok, Err, IsErrAnd, ⊤}
 use Rattle.findings.specs.declared.Fault.{Fault}
 use Rattle.findings.specs.declared.Fault.TheVariants.{Stop, Unknown, Executed, Layout, Unheld}
-use Rattle.machine.proofs.Stops.{some_stop}
+use Rattle.machine.proofs.Stops.{stop_nonzero}
 use Rattle.findings.specs.Findings.{fault_number, finding_number, Tells}
 
 pub tells_none : Tells 0 []
@@ -40,7 +40,7 @@ tells_first r ps p = sym (ap first_no (append-nil ps)) ∙ p [] ∙ none_or r (e
 
 -- a fault has a number
 pub fault_some : (fault : Fault) → fault_number fault ≡ 0 → ⊥
-fault_some (Stop why) z = some_stop why z
+fault_some (Stop why) z = stop_nonzero why z
 fault_some Unknown z = absurd (omega arith)
 fault_some Executed z = absurd (omega arith)
 fault_some Layout z = absurd (omega arith)

@@ -72,6 +72,9 @@ event_stop (Address bank address) = 0
 event_stop (Data bank address byte) = 0
 event_stop (Stopped why) = stop_number why
 
+abbrev pub event_bytes : Event → List ℕ
+event_bytes e = event_kind e ∷ event_address e ∷ event_written e ∷ event_stop e ∷ []
+
 -- the outcome of a word from what the code leaves
 abbrev pub outcome : Effect → List ℕ → List ℕ → List ℕ → Outcome
 outcome e values latches returns =
@@ -87,7 +90,7 @@ outcome e values latches returns =
             returns = returns;
             stop = event_stop e.event;
           };
-      event = event_kind e.event ∷ event_address e.event ∷ event_written e.event ∷ event_stop e.event ∷ [];
+      event = event_bytes e.event;
     }
 
 -- an act that has gone on to PC + 1

@@ -12,9 +12,9 @@ returns-then-k-lt-ADDRESS c = λ l s.
 pub returns-then-not-listed : goal.returns-then-not-listed
 returns-then-not-listed c = λ l s.
     let a = c.args in
-    c.stopped.ensures a.values.now l s ∙ unlisted a.map.now (operation_number a.op) a.x a.q a.values.now l s a.k c.result-y.result c.if-k-lt-ADDRESS.false c.result-y.ensures (cc (c.if-not-listed.true))
+    c.stopped.ensures a.values.now l s ∙ unlisted a.map.now (operation_number a.op) a.x a.q a.values.now l s a.k c.result-y-2.result c.if-k-lt-ADDRESS.false c.result-y-2.ensures (cc (c.if-not-listed.true))
 
 pub returns : goal.returns
 returns c = λ l s.
     let a = c.args in
-    to_address a.map.now (operation_number a.op) a.x a.q a.values.now l s _ _ _ a.k _ c.if-k-lt-ADDRESS.false c.result-y.ensures (cc (c.if-not-listed.false)) c.set_overflow-2.ensures (omega (arith, c.if-k-lt-ADDRESS.false)) c.went-2.ensures
+    to_address a.map.now (operation_number a.op) a.x a.q a.values.now l s _ _ _ a.k _ c.if-k-lt-ADDRESS.false c.result-y-2.ensures (cc (c.if-not-listed.false)) c.set_overflow-2.ensures (omega (arith, c.if-k-lt-ADDRESS.false)) c.went-2.ensures

@@ -7,8 +7,8 @@ use Prim.Native.Nat.{◌*◌}
 use lib.ListN.{drop, length-drop}
 use Rattle.machine.specs.Parts.{whole}
 use Rattle.emulator.specs.Run.{pair_length, pair_count}
-use Rattle.emulator.proofs.Going.{begins, ends, ran_none, room_second, room_first, event_fits, as_long, again, stops, running_on}
-use Rattle.machine.proofs.Stops.{some_stop}
+use Rattle.emulator.proofs.Going.{begins, ends, ran_none, room_second, room_first, event_fits, as_long, again, stops}
+use Rattle.machine.proofs.Stops.{stop_nonzero, no_stop}
 use Rattle.emulator.proofs.steps.Goals as goal
 
 pub loop-i-init : goal.loop-i-init
@@ -49,14 +49,14 @@ returns-in-Stopped c =
     stops p.q p.values p.latches p.returns c.requires p.invariant c.loop-i-test.true (rw c.address_bytes.ensures at c.write_half.ensures)
     c.step-e.result _ _ _ (λ k. (c.type_inv.image k).fits) (λ k. (c.type_inv.recording k).fits) c.step-e.ensures
     (rw c.event_bytes.ensures at c.write_half-in-loop-i.ensures)
-    (told ∙ sym (ap event_stop c.in-Stopped.is)) (λ z. some_stop c.in-Stopped.why (sym told ∙ z))
+    (told ∙ sym (ap event_stop c.in-Stopped.is)) (λ z. stop_nonzero c.in-Stopped.why (sym told ∙ z))
 
 pub loop-i-preserved : goal.loop-i-preserved
 loop-i-preserved c =
     let p = c.loop-i in
     again p.q p.values p.latches p.returns c.requires p.invariant c.loop-i-test.true (rw c.address_bytes.ensures at c.write_half.ensures)
     c.step-e.result _ _ _ (λ k. (c.type_inv.image k).fits) (λ k. (c.type_inv.recording k).fits) c.step-e.ensures
-    (rw c.event_bytes.ensures at c.write_half-in-loop-i.ensures) (running_on c.step-e.result.event c.in_default.not-Stopped)
+    (rw c.event_bytes.ensures at c.write_half-in-loop-i.ensures) (no_stop c.step-e.result.event c.in_default.not-Stopped)
 
 pub returns : goal.returns
 returns c =
