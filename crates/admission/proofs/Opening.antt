@@ -92,7 +92,7 @@ module _ (image map table : List ℕ) where
 
 -- a door that does not refuse has the number 0
 pub let_through : (r : Result ⊤ Refusal) → ((refusal : Refusal) → r ≡ Err refusal → ⊥) → door_number r ≡ 0
-let_through (Ok open) other = refl
+let_through (Ok fine) other = refl
 let_through (Err refusal) other = absurd (other refusal refl)
 
 -- the filled table is one that a loop over its cells can read

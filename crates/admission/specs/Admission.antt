@@ -36,7 +36,7 @@ admit_told (Err refusal) = Refused (refusal_number refusal)
 
 -- what the door answers: 0 where no question gets a no
 abbrev pub door_number : Result ⊤ Refusal → ℕ
-door_number (Ok open) = 0
+door_number (Ok fine) = 0
 door_number (Err refusal) = refusal_number refusal
 
 -- "With no finding the program is admitted; else the answer is one finding with its depth and address": the first in the

@@ -33,16 +33,6 @@ fn finding_byte(found: Result<(), Fault>) -> u8
     }
 }
 
-// The byte of a cell's finding, 0 where it has none.
-fn finding_byte(found: Result<(), Fault>) -> u8
-    ensures { result ≡ finding_number found }
-{
-    match found {
-        Ok(()) => 0,
-        Err(fault) => fault.number(),
-    }
-}
-
 // The cell and what it fails with, if it does.
 fn failure(found: Result<(), Fault>, depth: usize, address: usize) -> Option<Failure>
     ensures number { failing result ≡ finding_number found }
@@ -59,13 +49,7 @@ fn failure(found: Result<(), Fault>, depth: usize, address: usize) -> Option<Fai
 }
 
 // Writes the finding of a cell into its record, and tells it.
-fn mark_cell(
-    image: &[u8],
-    map: &[u8],
-    table: &mut [u8],
-    depth: usize,
-    pc: usize,
-) -> Option<Failure>
+fn mark_cell(image: &[u8], map: &[u8], table: &mut [u8], depth: usize, pc: usize) -> Option<Failure>
     requires { Held image.now table.old × (length map.now ≡ map_length) × (depth < 9) × (pc < word_count image.now) }
     ensures number { failing result ≡ finding_at image.now map.now table.old (point_at (word_count image.now) depth pc) }
     ensures cell { IfSome result (λ f. (f.depth ≡ depth) × (f.address ≡ pc)) }

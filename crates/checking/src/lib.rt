@@ -81,11 +81,13 @@ fn settle(image: &[u8], map: &[u8], table: &[u8]) -> Option<Failure>
 {
     let words = image.len() / 2;
     for i in 0..facts::DEPTHS * words {
-        if let Err(fault) = cell_fault(image, map, table, i / words, i % words) {
+        let depth = i / words;
+        let address = i % words;
+        if let Err(fault) = cell_fault(image, map, table, depth, address) {
             return Some(Failure {
                 fault,
-                depth: i / words,
-                address: i % words,
+                depth,
+                address,
             });
         }
     }

@@ -1,5 +1,5 @@
 -- The run as the code holds it: what a step's effect writes, what the steps of a run leave, and what they need.
-use Rattle.std.specs.Prelude.{List, [], ◌∷◌, ◌++◌, ◌≡◌, ℕ, ◌*◌, ◌<◌, ◌≤◌, length}
+use Rattle.std.specs.Prelude.{List, ◌++◌, ◌≡◌, ℕ, ◌*◌, ◌<◌, ◌≤◌, length}
 use Rattle.map.specs.Map.{map_length}
 use Rattle.state.specs.declared.State.{State}
 use Rattle.state.specs.State.{two_bytes, Formed, Sized}

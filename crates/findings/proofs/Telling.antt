@@ -50,3 +50,12 @@ fault_some Unheld z = absurd (omega arith)
 pub hand_on : (r : Result ⊤ Fault) (fault : Fault) (qs : List Question) → IsErrAnd r (λ e. e ≡ fault) → Tells (fault_number fault) qs → Tells (finding_number r) qs
 hand_on (Ok fine) fault qs none t = absurd none
 hand_on (Err e) fault qs same t = subst⁻¹ (λ (x : Fault). Tells (fault_number x) qs) same t
+
+pub handed : (r : Result ⊤ Fault) (fault : Fault) → IsErrAnd r (λ e. e ≡ fault) → finding_number r ≡ fault_number fault
+handed (Ok fine) fault none = absurd none
+handed (Err e) fault same = ap fault_number same
+
+-- what has no fault has no number
+pub no_fault : (r : Result ⊤ Fault) → ((fault : Fault) → r ≡ Err fault → ⊥) → finding_number r ≡ 0
+no_fault (Ok fine) other = refl
+no_fault (Err fault) other = absurd (other fault refl)

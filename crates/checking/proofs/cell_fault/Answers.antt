@@ -9,6 +9,7 @@ use Rattle.callers.proofs.Points.{point_small, point_room}
 use Rattle.callers.proofs.Sites.{site_bounded}
 use Rattle.passing.proofs.Joining.{held}
 use Rattle.transfer.specs.Passes.{point_at}
+use Rattle.findings.proofs.Telling.{fault_some, handed}
 use Rattle.checking.proofs.Faults.{some_records, asked_ready, fault_found, fault_nowhere, walked}
 use Rattle.checking.proofs.cell_fault.Goals as goal
 
@@ -35,17 +36,19 @@ returns-then-not-reached c =
     let a = c.args in
     fault_nowhere a.image.now a.map.now a.table.now (point_at (word_count a.image.now) a.depth a.pc) c.reached.ensures (ap not c.if-not-reached.true)
 
-pub cell_finding-found-requires : goal.cell_finding-found-requires
-cell_finding-found-requires c =
+pub cell_finding-requires : goal.cell_finding-requires
+cell_finding-requires c =
     let start = c in
     let a = start.args in
     (held a.image.now a.table.now start.requires.0.words start.requires.0.layout, start.requires.1, start.requires.2, start.requires.3.inside)
 
-pub returns-then-found-ne0 : goal.returns-then-found-ne0
-returns-then-found-ne0 c =
+pub returns-in_err-cell_finding : goal.returns-in_err-cell_finding
+returns-in_err-cell_finding c =
     let a = c.args in
-    let found = c.cell_finding-found.ensures in
-    found ∙ fault_found a.image.now a.map.now a.table.now (point_at (word_count a.image.now) a.depth a.pc) (λ z. c.if-found-ne0.true (found ∙ z))
+    let fault = c.in_err-cell_finding.field-0.0 in
+    let found = c.in_err-cell_finding.ensures in
+    handed c.from_residual.result fault c.from_residual.ensures.1 ∙ found
+    ∙ fault_found a.image.now a.map.now a.table.now (point_at (word_count a.image.now) a.depth a.pc) (λ z. fault_some fault (found ∙ z))
 
 pub load-c-requires : goal.load-c-requires
 load-c-requires c =
@@ -69,7 +72,7 @@ returns-then-pass_cell c =
     let a = start.args in
     ap (λ (b : Bool). pick (not b) 0 43) (sym c.if-pass_cell.true)
     ∙ walked a.image.now a.map.now a.table.now a.depth a.pc start.requires.3.inside (some_records a.image.now a.table.now a.pc start.requires.0 start.requires.3.inside)
-    c.reached.ensures (ap not c.if-not-reached.false) c.load-c.ensures (sym c.cell_finding-found.ensures ∙ c.if-found-ne0.false) c.pass_cell.ensures
+    c.reached.ensures (ap not c.if-not-reached.false) c.load-c.ensures (sym c.in_ok-cell_finding.ensures) c.pass_cell.ensures
 
 pub returns : goal.returns
 returns c =
@@ -77,4 +80,4 @@ returns c =
     let a = start.args in
     ap (λ (b : Bool). pick (not b) 0 43) (sym c.if-pass_cell.false)
     ∙ walked a.image.now a.map.now a.table.now a.depth a.pc start.requires.3.inside (some_records a.image.now a.table.now a.pc start.requires.0 start.requires.3.inside)
-    c.reached.ensures (ap not c.if-not-reached.false) c.load-c.ensures (sym c.cell_finding-found.ensures ∙ c.if-found-ne0.false) c.pass_cell.ensures
+    c.reached.ensures (ap not c.if-not-reached.false) c.load-c.ensures (sym c.in_ok-cell_finding.ensures) c.pass_cell.ensures

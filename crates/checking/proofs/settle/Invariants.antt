@@ -1,14 +1,7 @@
-use Prim.Native.Nat.{◌-◌, ◌*◌, ◌<◌}
-use Rattle.machine.specs.Step.{word_count}
-use Rattle.facts.specs.Record.{depths}
-use Rattle.transfer.specs.Passes.{point_at}
 use Rattle.transfer.proofs.First.{NoneBefore}
 use Rattle.checking.specs.Check.{fault_at}
 use Rattle.checking.proofs.settle.Given as goal
 
-abbrev pub invariant-loop-depth : goal.invariant-loop-depth
-invariant-loop-depth l =
-    (l.pc < word_count l.image) × NoneBefore (fault_at l.image l.map l.table) (point_at (word_count l.image) l.depth l.pc)
-
-abbrev pub decreases-loop-depth : goal.decreases-loop-depth
-decreases-loop-depth l = depths * word_count l.image - point_at (word_count l.image) l.depth l.pc
+-- no cell before fails
+abbrev pub invariant-loop-i : goal.invariant-loop-i
+invariant-loop-i l = NoneBefore (fault_at l.image l.map l.table) l.i
