@@ -5,8 +5,8 @@ use Rattle.emulator.proofs.Door.{image_words}
 use Rattle.foretell.proofs.Door.{refused_11, tells}
 use Rattle.foretell.proofs.foretell.Goals as goal
 
-pub returns-then-not-image_fits : goal.returns-then-not-image_fits
-returns-then-not-image_fits c = refused_11 c.args.image.now (sym c.image_fits.ensures ∙ c.if-not-image_fits.true)
+pub returns-then-not-image_fits-clause-forecast : goal.returns-then-not-image_fits-clause-forecast
+returns-then-not-image_fits-clause-forecast c = refused_11 c.args.image.now (sym c.image_fits.ensures ∙ c.if-not-image_fits.true)
 
 pub overflow_mul-result : goal.overflow_mul-result
 overflow_mul-result c = omega (arith, image_words c.args.image.now (sym c.image_fits.ensures ∙ c.if-not-image_fits.false))
@@ -14,5 +14,5 @@ overflow_mul-result c = omega (arith, image_words c.args.image.now (sym c.image_
 pub overflow_mul-result-2 : goal.overflow_mul-result-2
 overflow_mul-result-2 c = omega (arith, image_words c.args.image.now (sym c.image_fits.ensures ∙ c.if-not-image_fits.false))
 
-pub returns : goal.returns
-returns c = tells c.args.image.now (sym c.image_fits.ensures ∙ c.if-not-image_fits.false)
+pub returns-clause-forecast : goal.returns-clause-forecast
+returns-clause-forecast c = tells c.args.image.now (sym c.image_fits.ensures ∙ c.if-not-image_fits.false)

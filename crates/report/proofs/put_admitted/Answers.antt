@@ -6,7 +6,7 @@ use Rattle.report.proofs.Writing.{none_refused, sets, small_counts, admitted_lin
 use Rattle.report.proofs.put_admitted.Goals as goal
 
 pub returns-in_default : goal.returns-in_default
-returns-in_default c = absurd (none_refused c.args.map.now c.requires.2 c.count.result c.count.ensures.counts.0 c.in_default.not-Ok)
+returns-in_default c = absurd (none_refused c.args.map.now c.count.result c.requires.2 c.count.ensures.counts.0 c.in_default.not-Ok)
 
 pub put_sets-requires : goal.put_sets-requires
 put_sets-requires c =

@@ -1,5 +1,6 @@
 -- `report::put_answer` meets its contract: the door refuses nothing, and what is found is small. Assumes nothing.
-use mathlib.Core.Path.{refl}
+use mathlib.Core.Path.{refl, ap, ◌∙◌}
+use Rattle.admission.specs.Admission.{admit_told}
 use native.Mathlib.Omega.{arith}
 use Rattle.text.proofs.Writing.{the_same}
 use Rattle.report.proofs.Answers.{part_long, verdict, the_line, never_refused, small_found}
@@ -17,7 +18,7 @@ put_door-requires c =
     let image = start.args.image.now in
     let map = start.args.map.now in
     let e = verdict image map start.requires admitted.table_buffer-table.result admitted.table_buffer-table.ensures admitted.admit-answered.ensures.0 in
-    absurd (never_refused image map e c.in-Err.is)
+    absurd (never_refused image map e (ap admit_told c.in-Err.is))
 
 pub returns-in-Err : goal.returns-in-Err
 returns-in-Err c =
@@ -26,7 +27,7 @@ returns-in-Err c =
     let image = start.args.image.now in
     let map = start.args.map.now in
     let e = verdict image map start.requires admitted.table_buffer-table.result admitted.table_buffer-table.ensures admitted.admit-answered.ensures.0 in
-    absurd (never_refused image map e c.in-Err.is)
+    absurd (never_refused image map e (ap admit_told c.in-Err.is))
 
 pub returns-in-Ok-None : goal.returns-in-Ok-None
 returns-in-Ok-None c =
@@ -36,7 +37,7 @@ returns-in-Ok-None c =
     let map = start.args.map.now in
     let e = verdict image map start.requires admitted.table_buffer-table.result admitted.table_buffer-table.ensures admitted.admit-answered.ensures.0 in
     let w = c.put_admitted.ensures in
-    (the_same (w.0 image refl) (the_line image map e c.in-Ok-None.is), w.1)
+    (the_same (w.0 image refl) (the_line image map e (let x = c.in-Ok-None in ?)), w.1)
 
 pub put_found-requires : goal.put_found-requires
 put_found-requires c =
@@ -45,7 +46,7 @@ put_found-requires c =
     let image = start.args.image.now in
     let map = start.args.map.now in
     let e = verdict image map start.requires admitted.table_buffer-table.result admitted.table_buffer-table.ensures admitted.admit-answered.ensures.0 in
-    let small = small_found image map e start.requires.3 c.in-Ok-Some.is in
+    let small = small_found image map e start.requires.3 (let x = c.in-Ok-Some in ?) in
     (start.requires.0, small.0, small.1, small.2)
 
 pub returns-in-Ok-Some : goal.returns-in-Ok-Some
@@ -56,4 +57,4 @@ returns-in-Ok-Some c =
     let map = start.args.map.now in
     let e = verdict image map start.requires admitted.table_buffer-table.result admitted.table_buffer-table.ensures admitted.admit-answered.ensures.0 in
     let w = c.put_found.ensures in
-    (the_same w.0 (the_line image map e c.in-Ok-Some.is), w.1)
+    (the_same w.0 (the_line image map e (let x = c.in-Ok-Some in ?)), w.1)
