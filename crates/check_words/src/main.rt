@@ -14,14 +14,6 @@ struct Listed {
     c: usize,
 }
 
-// What writing gave: 1 and the word's two bytes, or 0, 0, 22.
-#[derive(Clone, Copy)]
-struct Written {
-    good: u8,
-    high: u8,
-    low: u8,
-}
-
 fn entry(kind: u8, a: usize, b: usize, c: usize) -> Listed {
     Listed { kind, a, b, c }
 }
@@ -45,17 +37,14 @@ fn fields_of(w: Word) -> Listed {
     }
 }
 
-fn written_of(e: Encoding) -> Written {
+// What writing gave: 1 and the word's two bytes, or 0, 0, 22.
+fn written_of(e: Encoding) -> [u8; 3] {
     match e {
         Encoding::Bits(bits) => {
             let [high, low] = bits.to_be_bytes();
-            return Written { good: 1, high, low };
+            return [1, high, low];
         }
-        Encoding::Refused => return Written {
-            good: 0,
-            high: 0,
-            low: 22,
-        },
+        Encoding::Refused => return [0, 0, 22],
     }
 }
 
@@ -67,17 +56,18 @@ fn came_back(e: Encoding, bits: u16) -> bool {
 }
 
 // The eight bytes of a word for the digest.
-fn bytes_of(l: Listed, w: Written) -> [u8; 8] {
+fn bytes_of(l: Listed, written: [u8; 3]) -> [u8; 8] {
     let c = l.c.to_le_bytes();
+    let [good, high, low] = written;
     [
         l.kind,
         l.a.to_le_bytes()[0],
         l.b.to_le_bytes()[0],
         c[0],
         c[1],
-        w.good,
-        w.high,
-        w.low,
+        good,
+        high,
+        low,
     ]
 }
 

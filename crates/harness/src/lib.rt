@@ -9,6 +9,7 @@ ghost use Rattle.digest.specs.Digest.{empty_digest, digest_of};
 ghost use Rattle.harness.specs.Lines.{line_texts};
 
 // Calls `case` with the text from each line on, in order.
+// Not with the lines that `split` gives: a case reads on in the next line where its own has too few fields.
 pub fn each_line<F: FnMut(&[u8])>(text: &[u8], mut case: F)
     requires { F.IsAlwaysCallable case }
     ensures { (last : F) × FoldsTo (λ p rest q. CalledAt F.FnMut p rest tt q) case (line_texts text.now) last }

@@ -14,16 +14,16 @@ fn put_words(out: &mut [u8], input: &[u8]) -> usize
     requires { 64 ≤ length out.old }
     ensures { Written out.old 0 (asked (input_questions input.now) (words_line (take map_length input.now) (drop map_length input.now)) door_line) out.new result × (result < 64) }
 {
-    if input.len() < map::LENGTH {
+    let Some((map, image)) = input.split_at_checked(map::LENGTH) else {
         return text::put_door(out, 12);
-    }
+    };
     if 928 < input.len() {
         return text::put_door(out, 18);
     }
-    if !emulator::image_fits(&input[map::LENGTH..]) {
+    if !emulator::image_fits(image) {
         return text::put_door(out, 11);
     }
-    report::put_answer(out, &input[..map::LENGTH], &input[map::LENGTH..])
+    report::put_answer(out, map, image)
 }
 
 // Makes the line of an input, the map and then the image; its length.

@@ -1,12 +1,12 @@
--- `line::line` meets its contract. Assumes nothing.
+-- `line::line` meets its contract: the line with its end behind it, from place 0. Assumes nothing.
 use native.Mathlib.Omega.{arith}
-use Rattle.line.proofs.Input.{whole_line}
+use Rattle.text.proofs.Writing.{behind}
+use Rattle.line.specs.Line.{line_of}
 use Rattle.line.proofs.line.Goals as goal
 
 pub returns : goal.returns
+unfolding line_of
 returns c =
     let v = c.put_words-e.ensures in
-    let w = c.put.ensures in
-    let start = c in
-    let whole = whole_line start.args.input.now v.0 w in
-    (whole.line, omega (arith, start.requires, v.1, whole.long, w.place), whole.beyond)
+    let whole = behind v.0 c.put.ensures in
+    (whole.line, omega (arith, c.requires, v.1, whole.long, c.put.ensures.place), whole.beyond)
