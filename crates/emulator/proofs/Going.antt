@@ -12,11 +12,11 @@ use Rattle.state.specs.declared.State.{State}
 use Rattle.state.specs.State.{EachBelow}
 use Rattle.machine.specs.declared.Sequencer.{Sequencer}
 use Rattle.machine.specs.declared.Effect.{Effect}
-use Rattle.machine.specs.Parts.{whole, outcome, event_bytes, event_stop}
+use Rattle.machine.specs.Parts.{whole, outcome, event_kind, event_bytes, event_stop}
 use Rattle.machine.specs.Step.{word_count, Step, step_from, stepped}
 use Rattle.machine.proofs.Keeps.{Sound, SoundOutcome, outcome_of, step_sound}
 use Rattle.emulator.specs.Run.{pair_length, pair_count, record_length, record_of, Ran, no_step, after, ran_over, written_over}
-use Rattle.emulator.specs.Parts.{half_length, address_bytes, EventFits, last_state, ran_to, laid_over, Accepted}
+use Rattle.emulator.specs.Parts.{half_length, address_bytes, last_state, ran_to, laid_over, Accepted}
 use Rattle.emulator.proofs.Written.{room_from, part_written, written, written_take, written_drop, written_length, written_before}
 
 -- ---- the run by its parts
@@ -210,9 +210,8 @@ module _ {image map recording start : List ℕ} {s₀ : State} {i : ℕ} {trace 
       sound : SoundOutcome (outcome e v' l' r')
       sound = goes_sound image map recording start s₀ i (whole q v l r) trace made door.words bytes pairs g step
 
-      pub event_fits : EventFits e.event
-      event_fits =
-          record { kind = sound.bytes 0; address = sound.bytes 1; written = sound.bytes 2; stop = sound.bytes 3 }
+      pub event_fits : event_kind e.event < 256
+      event_fits = sound.bytes 0
 
       -- and the part back in which was written what its word does
       module _ {part : List ℕ} (event : part ≡ written_over (event_bytes e.event) (take (length located - at) (drop at located))) where

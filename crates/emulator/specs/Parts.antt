@@ -1,11 +1,10 @@
 -- The run as the code holds it: what a step's effect writes, what the steps of a run leave, and what they need.
-use Rattle.std.specs.Prelude.{List, ◌++◌, ◌≡◌, ℕ, ◌*◌, ◌<◌, ◌≤◌, length}
+use Rattle.std.specs.Prelude.{List, ◌++◌, ◌≡◌, ℕ, ◌*◌, ◌≤◌, length}
 use Rattle.map.specs.Map.{map_length}
 use Rattle.state.specs.declared.State.{State}
 use Rattle.state.specs.State.{two_bytes, Formed, Sized}
 use Rattle.machine.specs.declared.Sequencer.{Sequencer}
-use Rattle.machine.specs.declared.Event.{Event}
-use Rattle.machine.specs.Parts.{fetch_of, event_kind, event_address, event_written, event_stop}
+use Rattle.machine.specs.Parts.{fetch_of}
 use Rattle.machine.specs.Step.{word_count}
 use Rattle.emulator.specs.declared.Last.{Last}
 use Rattle.emulator.specs.Run.{Ran, pair_count, record_length, written_over}
@@ -16,13 +15,6 @@ half_length = 4
 
 abbrev pub address_bytes : Sequencer → List ℕ
 address_bytes q = two_bytes q.pc ++ two_bytes (fetch_of q)
-
--- its numbers fit bytes
-pub record EventFits (e : Event) : Type 0 where
-  pub kind : event_kind e < 256
-  pub address : event_address e < 256
-  pub written : event_written e < 256
-  pub stop : event_stop e < 256
 
 -- the state that the steps of a run leave
 abbrev pub last_state : Last → List ℕ → List ℕ → List ℕ → State

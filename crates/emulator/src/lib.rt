@@ -1,10 +1,10 @@
 // The steps of a run: one for each pair of a recording, with its trace record.
 #![tactic(auto)]
 
-ghost use Rattle.std.specs.Prelude.{◌≡◌, ◌≤◌, length};
-ghost use Rattle.machine.specs.Parts.{whole, event_bytes};
+ghost use Rattle.std.specs.Prelude.{◌≡◌, [], ◌∷◌, ◌≤◌, ◌<◌, length};
+ghost use Rattle.machine.specs.Parts.{whole, event_kind, event_bytes};
 ghost use Rattle.emulator.specs.Run.{ran_over, written_over, image_fits};
-ghost use Rattle.emulator.specs.Parts.{half_length, address_bytes, EventFits, ran_to, laid_over, Accepted};
+ghost use Rattle.emulator.specs.Parts.{half_length, address_bytes, ran_to, laid_over, Accepted};
 
 use machine::{Event, Sequencer};
 
@@ -31,42 +31,47 @@ pub struct Last {
 }
 
 // Writes half a record at the start of a part of the trace.
-fn write_half(part: &mut [u8], half: [u8; HALF])
+fn write_half(part: &mut [u8], a: u8, b: u8, c: u8, d: u8)
     requires { half_length ≤ length part.old }
-    ensures { part.new ≡ written_over half part.old }
+    ensures { part.new ≡ written_over (a ∷ b ∷ c ∷ d ∷ []) part.old }
 {
-    part[..HALF].copy_from_slice(&half);
+    part[0] = a;
+    part[1] = b;
+    part[2] = c;
+    part[3] = d;
 }
 
-// What a step's word does: its kind, the bank's address, the data, the stop number.
-fn event_bytes(event: Event) -> [u8; HALF]
-    requires { EventFits event }
-    ensures { result ≡ event_bytes event }
+// What a step's word does. Not as an array that is copied: that takes 8 instructions a step more (of 91, the timing image).
+fn write_event(part: &mut [u8], event: Event)
+    requires { (half_length ≤ length part.old) × (event_kind event < 256) }
+    ensures { part.new ≡ written_over (event_bytes event) part.old }
 {
     match event {
-        Event::Quiet => [0; HALF],
-        Event::Address { bank, address } => [1 + bank as u8, address, 0, 0],
+        Event::Quiet => write_half(part, 0, 0, 0, 0),
+        Event::Address { bank, address } => write_half(part, (1 + bank) as u8, address, 0, 0),
         Event::Data {
             bank,
             address,
             data,
-        } => [3 + bank as u8, address, data, 0],
-        Event::Stopped(why) => [5, 0, 0, why.number()],
+        } => write_half(part, (3 + bank) as u8, address, data, 0),
+        Event::Stopped(why) => write_half(part, 5, 0, 0, why.number()),
     }
 }
 
 // PC and the fetch address before a step, the low byte first.
-fn address_bytes(q: Sequencer) -> [u8; HALF]
-    ensures { result ≡ address_bytes q }
+fn write_addresses(part: &mut [u8], q: Sequencer)
+    requires { half_length ≤ length part.old }
+    ensures { part.new ≡ written_over (address_bytes q) part.old }
 {
     let pc = q.pc;
     let at = processor::fetch_address(q);
-    [
+    write_half(
+        part,
         (pc % 256) as u8,
         (pc / 256 % 256) as u8,
         (at % 256) as u8,
         (at / 256 % 256) as u8,
-    ]
+    );
 }
 
 // Steps over the pairs of the recording until the machine stops.
@@ -88,9 +93,9 @@ pub fn steps(
     for i in 0..pairs {
         let bus = [recording[PAIR * i], recording[PAIR * i + 1]];
         let at = RECORD * i;
-        write_half(&mut trace[at + HALF..], address_bytes(q));
+        write_addresses(&mut trace[at + HALF..], q);
         let e = processor::step(image, map, bus, q, values, latches, returns);
-        write_half(&mut trace[at..], event_bytes(e.event));
+        write_event(&mut trace[at..], e.event);
         q = e.q;
         if let Event::Stopped(why) = e.event {
             return Last {

@@ -14,8 +14,8 @@ use Rattle.emulator.proofs.steps.Goals as goal
 pub loop-i-init : goal.loop-i-init
 loop-i-init c = begins _ _ _ _ _ (record { formed = c.requires.formed; sized = c.requires.sized })
 
-pub write_half-requires : goal.write_half-requires
-write_half-requires c =
+pub write_addresses-requires : goal.write_addresses-requires
+write_addresses-requires c =
     let p = c.loop-i in
     room_second p.q p.values p.latches p.returns c.requires p.invariant c.loop-i-test.true
 
@@ -24,39 +24,36 @@ step-e-requires c =
     let g = c.loop-i.invariant in
     record { words = c.requires.words; long = c.requires.long; near = g.sound.formed.pc; shallow = g.sound.formed.depth }
 
-pub event_bytes-requires : goal.event_bytes-requires
-event_bytes-requires c =
-    let p = c.loop-i in
-    event_fits p.q p.values p.latches p.returns c.requires p.invariant c.loop-i-test.true (rw c.address_bytes.ensures at c.write_half.ensures)
-    c.step-e.result _ _ _ (λ k. (c.type_inv.image k).fits) (λ k. (c.type_inv.recording k).fits) c.step-e.ensures
-
-pub write_half-requires-in-loop-i : goal.write_half-requires-in-loop-i
-write_half-requires-in-loop-i c =
-    let p = c.loop-i in
-    room_first p.q p.values p.latches p.returns c.requires p.invariant c.loop-i-test.true (rw c.address_bytes.ensures at c.write_half.ensures)
+pub write_event-requires : goal.write_event-requires
+write_event-requires c =
+    let p = c.loop-i in (
+      room_first p.q p.values p.latches p.returns c.requires p.invariant c.loop-i-test.true c.write_addresses.ensures,
+      event_fits p.q p.values p.latches p.returns c.requires p.invariant c.loop-i-test.true c.write_addresses.ensures
+          c.step-e.result _ _ _ (λ k. (c.type_inv.image k).fits) (λ k. (c.type_inv.recording k).fits) c.step-e.ensures,
+    )
 
 pub shape_of-trace-in-Stopped : goal.shape_of-trace-in-Stopped
 shape_of-trace-in-Stopped c =
     let p = c.loop-i in
-    as_long p.q p.values p.latches p.returns c.requires p.invariant c.loop-i-test.true (rw c.address_bytes.ensures at c.write_half.ensures)
+    as_long p.q p.values p.latches p.returns c.requires p.invariant c.loop-i-test.true c.write_addresses.ensures
     c.step-e.result _ _ _ (λ k. (c.type_inv.image k).fits) (λ k. (c.type_inv.recording k).fits) c.step-e.ensures
-    (rw c.event_bytes.ensures at c.write_half-in-loop-i.ensures)
+    c.write_event.ensures
 
 pub returns-in-Stopped : goal.returns-in-Stopped
 returns-in-Stopped c =
     let p = c.loop-i in
     let told = c.from.ensures ∙ c.number.ensures in
-    stops p.q p.values p.latches p.returns c.requires p.invariant c.loop-i-test.true (rw c.address_bytes.ensures at c.write_half.ensures)
+    stops p.q p.values p.latches p.returns c.requires p.invariant c.loop-i-test.true c.write_addresses.ensures
     c.step-e.result _ _ _ (λ k. (c.type_inv.image k).fits) (λ k. (c.type_inv.recording k).fits) c.step-e.ensures
-    (rw c.event_bytes.ensures at c.write_half-in-loop-i.ensures)
+    c.write_event.ensures
     (told ∙ sym (ap event_stop c.in-Stopped.is)) (λ z. stop_nonzero c.in-Stopped.why (sym told ∙ z))
 
 pub loop-i-preserved : goal.loop-i-preserved
 loop-i-preserved c =
     let p = c.loop-i in
-    again p.q p.values p.latches p.returns c.requires p.invariant c.loop-i-test.true (rw c.address_bytes.ensures at c.write_half.ensures)
+    again p.q p.values p.latches p.returns c.requires p.invariant c.loop-i-test.true c.write_addresses.ensures
     c.step-e.result _ _ _ (λ k. (c.type_inv.image k).fits) (λ k. (c.type_inv.recording k).fits) c.step-e.ensures
-    (rw c.event_bytes.ensures at c.write_half-in-loop-i.ensures) (no_stop c.step-e.result.event c.in_default.not-Stopped)
+    c.write_event.ensures (no_stop c.step-e.result.event c.in_default.not-Stopped)
 
 pub returns : goal.returns
 returns c =
