@@ -1,5 +1,6 @@
 -- `report::put_answer` meets its contract: the door refuses nothing, and what is found is small. Assumes nothing.
 use mathlib.Core.Path.{refl, ap, ◌∙◌}
+use Rattle.std.specs.Prelude.{Ok}
 use Rattle.admission.specs.Admission.{admit_told}
 use native.Mathlib.Omega.{arith}
 use Rattle.text.proofs.Writing.{the_same}
@@ -37,7 +38,7 @@ returns-in-Ok-None c =
     let map = start.args.map.now in
     let e = verdict image map start.requires admitted.table_buffer-table.result admitted.table_buffer-table.ensures admitted.admit-answered.ensures.0 in
     let w = c.put_admitted.ensures in
-    (the_same (w.0 image refl) (the_line image map e (let x = c.in-Ok-None in ?)), w.1)
+    (the_same (w.0 image refl) (the_line image map e (ap admit_told (c.in-Ok-None.is ∙ ap Ok c.in-Ok-None.field-0-is))), w.1)
 
 pub put_found-requires : goal.put_found-requires
 put_found-requires c =
@@ -46,7 +47,7 @@ put_found-requires c =
     let image = start.args.image.now in
     let map = start.args.map.now in
     let e = verdict image map start.requires admitted.table_buffer-table.result admitted.table_buffer-table.ensures admitted.admit-answered.ensures.0 in
-    let small = small_found image map e start.requires.3 (let x = c.in-Ok-Some in ?) in
+    let small = small_found image map e start.requires.3 (ap admit_told (c.in-Ok-Some.is ∙ ap Ok c.in-Ok-Some.field-0-is)) in
     (start.requires.0, small.0, small.1, small.2)
 
 pub returns-in-Ok-Some : goal.returns-in-Ok-Some
@@ -57,4 +58,4 @@ returns-in-Ok-Some c =
     let map = start.args.map.now in
     let e = verdict image map start.requires admitted.table_buffer-table.result admitted.table_buffer-table.ensures admitted.admit-answered.ensures.0 in
     let w = c.put_found.ensures in
-    (the_same w.0 (the_line image map e (let x = c.in-Ok-Some in ?)), w.1)
+    (the_same w.0 (the_line image map e (ap admit_told (c.in-Ok-Some.is ∙ ap Ok c.in-Ok-Some.field-0-is))), w.1)
