@@ -14,7 +14,10 @@ use Rattle.facts.specs.Record.{depths}
 use Rattle.transfer.specs.Passes.{table_length, least_table}
 use Rattle.admission.specs.Admission.{AdmitAnswer}
 use Rattle.admission.specs.Admission.{Refused, Found}
-use Rattle.admission.specs.Admission.{AdmitResult, verdict_of, resulting, admit_result}
+use Rattle.std.specs.Prelude.{Option, Some, None, Ok, IfSome}
+use Rattle.findings.specs.declared.Failure.{Failure}
+use Rattle.findings.specs.Findings.{fault_number}
+use Rattle.admission.specs.Admission.{admit_told, AdmitResult, verdict_of, resulting, admit_result}
 use Rattle.admission.proofs.Range.{Told, verdict_told}
 use Rattle.report.specs.Report.{answer_line, words_line}
 
@@ -52,3 +55,8 @@ module _ (image map : List ℕ) {r : AdmitAnswer} (e : r ≡ verdict_of image ma
   small_found {n} {d} {a} most f =
       let t : (21 ≤ n) × (n < 30) × (d < depths) × (a < word_count image) = subst (Told (word_count image)) (sym e ∙ f) (verdict_told image map (least_table image)) in
       (omega (arith, t.1), omega (arith, t.2), omega (arith, t.3))
+
+  pub first_small : length image ≤ 800 → (first : Option Failure) → r ≡ admit_told (Ok first)
+      → IfSome first (λ f. (fault_number f.fault < 1000) × (f.depth < 1000) × (f.address < 1000))
+  first_small most None f = tt
+  first_small most (Some failure) f = small_found most f

@@ -1,13 +1,14 @@
 // What admission answers for an image, in the words of the bench's line.
 #![tactic(auto)]
 
-ghost use Rattle.std.specs.Prelude.{◌≡◌, List, true, ℕ, ◌+◌, ◌≤◌, ◌<◌, length};
+ghost use Rattle.std.specs.Prelude.{◌≡◌, List, true, ℕ, ◌+◌, ◌≤◌, ◌<◌, length, Ok, IfSome};
 ghost use Rattle.map.specs.Map.{map_length};
 ghost use Rattle.machine.specs.Step.{word_count};
 ghost use Rattle.emulator.specs.Run.{image_fits};
 ghost use Rattle.text.specs.Parts.{Written};
+ghost use Rattle.admission.specs.Admission.{admit_told};
 ghost use Rattle.findings.specs.Findings.{fault_number};
-ghost use Rattle.report.specs.Report.{sets_text, admitted_line, found_line, words_line};
+ghost use Rattle.report.specs.Report.{sets_text, admitted_line, found_line, answer_line, words_line};
 
 use findings::Failure;
 use map::SetSizes;
@@ -43,6 +44,17 @@ fn put_admitted(out: &mut [u8], words: usize, map: &[u8]) -> usize
     put_sets(out, a, sizes)
 }
 
+// The first cell that has a finding, or that none has.
+fn put_first(out: &mut [u8], words: usize, map: &[u8], first: Option<Failure>) -> usize
+    requires { (64 ≤ length out.old) × (words < 1000) × (length map.now ≡ map_length) × IfSome first (λ f. (fault_number f.fault < 1000) × (f.depth < 1000) × (f.address < 1000)) }
+    ensures { ((image : List ℕ) → words ≡ word_count image → Written out.old 0 (answer_line image map.now (admit_told (Ok first))) out.new result) × (result < 64) }
+{
+    match first {
+        None => put_admitted(out, words, map),
+        Some(failure) => put_found(out, failure),
+    }
+}
+
 // Room for the table of 400 words.
 fn table_buffer() -> [u8; 57600]
     ensures { 57600 ≡ length result }
@@ -60,8 +72,7 @@ pub fn put_answer(out: &mut [u8], map: &[u8], image: &[u8]) -> usize
     let mut table = table_buffer();
     let answered = admission::admit(image, map, &mut table[..size]);
     match answered.answer {
-        Ok(None) => put_admitted(out, words, map),
-        Ok(Some(failure)) => put_found(out, failure),
+        Ok(first) => put_first(out, words, map, first),
         Err(refusal) => text::put_door(out, usize::from(refusal.number())),
     }
 }

@@ -1,5 +1,5 @@
 -- `report::put_admitted` meets its contract: a map of its length is not refused, and its counts are small. Assumes nothing.
-use mathlib.Core.Path.{sym, ap, ◌∙◌}
+use mathlib.Core.Path.{ap}
 use native.Mathlib.Omega.{arith}
 use Rattle.map.specs.Map.{counts_told}
 use Rattle.report.proofs.Writing.{none_refused, sets, small_counts, admitted_line_lem}

@@ -10,4 +10,4 @@ returns c =
     let u = c.put_value-b.ensures in
     let v = c.put_value-c.ensures in
     let w = c.put_value.ensures in
-    (found_line_lem (fault_number failure.fault) failure.depth failure.address u.0 v.0 w.0, omega (arith, u.1, v.1, w.1))
+    (found_line_lem (fault_number failure.fault) failure.depth failure.address (rw (c.from.ensures, c.number.ensures) at u.0) v.0 w.0, omega (arith, u.1, v.1, w.1))
