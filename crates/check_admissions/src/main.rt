@@ -2,31 +2,23 @@
 // line with the answer, the count of sweeps and the digest of the table.
 #![tactic(auto)]
 
-use admission::AdmitAnswer;
+use findings::Failure;
+use refusal::Refusal;
 
-fn print_answer(a: AdmitAnswer) {
-    match a {
-        AdmitAnswer::Refused { number } => {
-            io::write_all(1, b"answer=refused:");
-            io::print_decimal(1, number as u64);
-            return;
-        }
-        AdmitAnswer::Admitted => {
-            io::write_all(1, b"answer=admitted");
-            return;
-        }
-        AdmitAnswer::Found {
-            number,
-            depth,
-            address,
-        } => {
+fn print_answer(answer: Result<Option<Failure>, Refusal>) {
+    match answer {
+        Ok(None) => io::write_all(1, b"answer=admitted"),
+        Ok(Some(failure)) => {
             io::write_all(1, b"answer=finding:");
-            io::print_decimal(1, number as u64);
+            io::print_decimal(1, u64::from(failure.fault.number()));
             io::write_all(1, b":");
-            io::print_decimal(1, depth as u64);
+            io::print_decimal(1, failure.depth as u64);
             io::write_all(1, b":");
-            io::print_decimal(1, address as u64);
-            return;
+            io::print_decimal(1, failure.address as u64);
+        }
+        Err(refusal) => {
+            io::write_all(1, b"answer=refused:");
+            io::print_decimal(1, u64::from(refusal.number()));
         }
     }
 }
@@ -35,8 +27,7 @@ fn print_answer(a: AdmitAnswer) {
 fn report(image: &[u8], map: &[u8], table: &mut [u8]) {
     digest::repeat(165, 165, table);
     let answered = admission::admit(image, map, table);
-    let answer = answered.answer;
-    print_answer(answer);
+    print_answer(answered.answer);
     io::write_all(1, b" sweeps=");
     io::print_decimal(1, answered.sweeps as u64);
     harness::print_digest(b" table_digest=", table);

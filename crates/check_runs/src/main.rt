@@ -2,21 +2,20 @@
 // the answer, the state afterwards, and the digests of state and trace.
 #![tactic(auto)]
 
-use emulator::RunAnswer;
+use emulator::RunEnd;
+use refusal::Refusal;
 
-fn print_answer(a: RunAnswer) {
-    match a {
-        RunAnswer::Refused { number } => {
-            io::write_all(1, b"answer=refused:");
-            io::print_decimal(1, number as u64);
-            return;
-        }
-        RunAnswer::Ended { count, stop } => {
+fn print_answer(answer: Result<RunEnd, Refusal>) {
+    match answer {
+        Ok(end) => {
             io::write_all(1, b"answer=ran:");
-            io::print_decimal(1, count as u64);
+            io::print_decimal(1, end.count as u64);
             io::write_all(1, b":");
-            io::print_decimal(1, stop as u64);
-            return;
+            io::print_decimal(1, end.stop as u64);
+        }
+        Err(refusal) => {
+            io::write_all(1, b"answer=refused:");
+            io::print_decimal(1, u64::from(refusal.number()));
         }
     }
 }

@@ -6,8 +6,6 @@
 // s the stop number, w the data written.
 #![tactic(auto)]
 
-use emulator::RunAnswer;
-
 // Where a named byte stands among the state's 36.
 fn place_of(name: u8) -> usize {
     match name {
@@ -119,11 +117,11 @@ fn value(title: &[u8], word: [u8; 2], given: &[u8], pair: [u8; 2], asked: &[u8])
     set(&mut state, given);
     let mut trace = [0u8; 8];
     let answer = running::run(&image, &map, &mut state, &pair, &mut trace);
-    let RunAnswer::Ended { count, stop: _ } = answer else {
+    let Ok(end) = answer else {
         io::write_all(1, b" refused\n");
         return;
     };
-    if count != 1 {
+    if end.count != 1 {
         io::write_all(1, b" not one step\n");
         return;
     }

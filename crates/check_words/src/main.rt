@@ -3,7 +3,7 @@
 #![tactic(auto)]
 
 use harness::Tally;
-use word::{Encoding, Word};
+use word::Word;
 
 // A case's number and its fields in the order of the word, 0 where there is none.
 #[derive(Clone, Copy)]
@@ -20,38 +20,31 @@ fn entry(kind: u8, a: usize, b: usize, c: usize) -> Listed {
 
 fn fields_of(w: Word) -> Listed {
     match w {
-        Word::Move { s, rl, d } => return entry(0, s, rl, d),
-        Word::Add { s, rl, d } => return entry(1, s, rl, d),
-        Word::And { s, rl, d } => return entry(2, s, rl, d),
-        Word::Xor { s, rl, d } => return entry(3, s, rl, d),
-        Word::XecRegister { s, i } => return entry(4, s, 0, i),
-        Word::XecBank { s, l, i } => return entry(5, s, l, i),
-        Word::NztRegister { s, i } => return entry(6, s, 0, i),
-        Word::NztBank { s, l, i } => return entry(7, s, l, i),
-        Word::Call { i } => return entry(8, 0, 0, i),
-        Word::Ret { i } => return entry(9, 0, 0, i),
-        Word::XmitRegister { d, i } => return entry(10, d, 0, i),
-        Word::XmitBank { d, l, i } => return entry(11, d, l, i),
-        Word::Jmp { a } => return entry(12, 0, 0, a),
-        Word::Invalid => return entry(13, 0, 0, 0),
+        Word::Move { s, rl, d } => entry(0, s, rl, d),
+        Word::Add { s, rl, d } => entry(1, s, rl, d),
+        Word::And { s, rl, d } => entry(2, s, rl, d),
+        Word::Xor { s, rl, d } => entry(3, s, rl, d),
+        Word::XecRegister { s, i } => entry(4, s, 0, i),
+        Word::XecBank { s, l, i } => entry(5, s, l, i),
+        Word::NztRegister { s, i } => entry(6, s, 0, i),
+        Word::NztBank { s, l, i } => entry(7, s, l, i),
+        Word::Call { i } => entry(8, 0, 0, i),
+        Word::Ret { i } => entry(9, 0, 0, i),
+        Word::XmitRegister { d, i } => entry(10, d, 0, i),
+        Word::XmitBank { d, l, i } => entry(11, d, l, i),
+        Word::Jmp { a } => entry(12, 0, 0, a),
+        Word::Invalid => entry(13, 0, 0, 0),
     }
 }
 
 // What writing gave: 1 and the word's two bytes, or 0, 0, 22.
-fn written_of(e: Encoding) -> [u8; 3] {
-    match e {
-        Encoding::Bits(bits) => {
+fn written_of(again: Option<u16>) -> [u8; 3] {
+    match again {
+        Some(bits) => {
             let [high, low] = bits.to_be_bytes();
-            return [1, high, low];
+            [1, high, low]
         }
-        Encoding::Refused => return [0, 0, 22],
-    }
-}
-
-fn came_back(e: Encoding, bits: u16) -> bool {
-    match e {
-        Encoding::Bits(again) => return again == bits,
-        Encoding::Refused => return false,
+        None => [0, 0, 22],
     }
 }
 
@@ -77,11 +70,11 @@ fn read(first: u16, last: u16) -> Tally {
     for bits in first..=last {
         let w = word::decode(bits);
         let l = fields_of(w);
-        let e = encoding::encode(w);
+        let again = encoding::encode(w);
         t = t.with(
             l.kind != 13,
-            came_back(e, bits),
-            &bytes_of(l, written_of(e)),
+            again == Some(bits),
+            &bytes_of(l, written_of(again)),
         );
     }
     t
