@@ -1,14 +1,34 @@
 // The lent table filled: sweeps from the reset cell until one changes nothing.
 #![tactic(auto)]
 
-ghost use Rattle.std.specs.Prelude.{◌≡◌, ◌*◌, ◌≤◌, ◌<◌, length};
+ghost use Rattle.std.specs.Prelude.{◌≡◌, [], ◌*◌, ◌≤◌, ◌<◌, length};
 ghost use Rattle.machine.specs.Step.{word_count};
+ghost use Rattle.facts.specs.Facts.{reset_facts};
 ghost use Rattle.facts.specs.Record.{record_size, depths};
-ghost use Rattle.transfer.specs.Passes.{start_table, sweep_bound, least_table, sweeps_of};
+ghost use Rattle.transfer.specs.Passes.{toward, start_table, sweep_bound, least_table, sweeps_of};
 ghost use Rattle.marks.specs.Marks.{Agenda};
-ghost use Rattle.passing.specs.Passing.{Laid};
+ghost use Rattle.passing.specs.Passing.{Laid, Ready, Passed};
 
-use passing::Reached;
+use passing::{Reached, Tables};
+
+// Passes what reset knows on to the first cell.
+fn start(image: &[u8], table: &mut [u8], marks: &mut [u64]) -> bool
+    requires { Ready image.now [] table.old marks.old }
+    ensures { Passed image.now [] 0 table.old marks.old (toward (word_count image.now) 0 0 reset_facts) table.new marks.new result }
+{
+    let mut tables = Tables {
+        image,
+        asked: &image[..0],
+        table,
+        marks,
+    };
+    let reset = Reached {
+        depth: 0,
+        pc: 0,
+        facts: [0; 11],
+    };
+    passing::pass(&mut tables, reset)
+}
 
 // Sweeps until one changes nothing. Tells how many changed the table.
 fn sweep_all(image: &[u8], table: &mut [u8], marks: &mut [u64], hubs: &mut [u8]) -> usize
@@ -30,11 +50,6 @@ pub fn fill(image: &[u8], table: &mut [u8]) -> usize
     table.fill(0);
     let mut marks = [0u64; marks::WORDS];
     let mut hubs = [0u8; facts::WORD_RECORDS];
-    let reset = Reached {
-        depth: 0,
-        pc: 0,
-        facts: [0; 11],
-    };
-    passing::pass(image, &image[..0], table, &mut marks, reset);
+    start(image, table, &mut marks);
     sweep_all(image, table, &mut marks, &mut hubs)
 }

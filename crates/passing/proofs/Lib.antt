@@ -1,3 +1,4 @@
 pub mod Joining
 pub mod Passing
 pub mod Going
+pub mod Loans

@@ -15,7 +15,8 @@ ghost use Rattle.cells.specs.Cells.{Bounded};
 ghost use Rattle.callers.specs.Callers.{InImage};
 ghost use Rattle.transfer.specs.Passes.{point_at, toward, word_passes};
 ghost use Rattle.marks.specs.Marks.{Sited, Noted};
-ghost use Rattle.passing.specs.Passing.{Laid, asks, seen, Ready, Passed};
+ghost use Rattle.passing.specs.Passing.{Laid, asks, seen};
+ghost use Rattle.passing.specs.Tables.{ReadyIn, PassedIn, SameLoans};
 
 use control::Paged;
 use facts::Cell;
@@ -28,6 +29,15 @@ pub struct Reached {
     pub depth: usize,
     pub pc: usize,
     pub facts: [u16; 11],
+}
+
+// The image, the table that is asked, the one that is joined into and its marks.
+#[derive(Drop)]
+pub struct Tables<'a> {
+    pub image: &'a [u8],
+    pub asked: &'a [u8],
+    pub table: &'a mut [u8],
+    pub marks: &'a mut [u64],
 }
 
 // Joins d into the cell at an address and depth. Says whether that changed, and then notes it.
@@ -50,31 +60,25 @@ fn join_at(
 }
 
 // Asks the cell of the first table whether it does not hold d; or joins d into that of the second.
-fn hand_on(
-    image: &[u8],
-    asked: &[u8],
-    table: &mut [u8],
-    marks: &mut [u64],
-    depth: usize,
-    a: usize,
-    d: Cell,
-) -> bool
-    requires { Ready image.now asked.now table.old marks.old × (depth < 9) × InImage image.now a × FineCell d }
-    ensures { (table.new ≡ pick (asks asked.now) table.old (put_cell table.old (point_at (word_count image.now) depth a) (join_cell (cell_at table.old (point_at (word_count image.now) depth a)) d))) × (result ≡ not (holds_cell (cell_at (seen asked.now table.old) (point_at (word_count image.now) depth a)) d)) × (asks asked.now ≡ false → Noted image.now table.old marks.old table.new marks.new) × (asks asked.now ≡ true → marks.new ≡ marks.old) }
+fn hand_on(t: &mut Tables<'_>, depth: usize, a: usize, d: Cell) -> bool
+    requires { ReadyIn t.old × (depth < 9) × InImage t.old.image.now a × FineCell d }
+    ensures handed { (t.new.table.now ≡ pick (asks t.old.asked.now) t.old.table.now (put_cell t.old.table.now (point_at (word_count t.old.image.now) depth a) (join_cell (cell_at t.old.table.now (point_at (word_count t.old.image.now) depth a)) d))) × (result ≡ not (holds_cell (cell_at (seen t.old.asked.now t.old.table.now) (point_at (word_count t.old.image.now) depth a)) d)) × (asks t.old.asked.now ≡ false → Noted t.old.image.now t.old.table.now t.old.marks.now t.new.table.now t.new.marks.now) × (asks t.old.asked.now ≡ true → t.new.marks.now ≡ t.old.marks.now) }
+    ensures lent { SameLoans t.old t.new }
 {
-    if 0 < asked.len() {
-        return !order::holds(cells::load(asked, depth * (image.len() / 2) + a), d);
+    if 0 < t.asked.len() {
+        return !order::holds(cells::load(t.asked, depth * (t.image.len() / 2) + a), d);
     }
-    join_at(image, table, marks, depth, a, d)
+    join_at(t.image, t.table, t.marks, depth, a, d)
 }
 
 // Passes facts on to a point; one at an address at or above N gets nothing. Says whether the cell did not hold them, as all
 // that follow do.
-pub fn pass(image: &[u8], asked: &[u8], table: &mut [u8], marks: &mut [u64], to: Reached) -> bool
-    requires { Ready image.now asked.now table.old marks.old × (to.depth < 9) × Bounded to.facts }
-    ensures { Passed image.now asked.now to.depth table.old marks.old (toward (word_count image.now) to.depth to.pc to.facts) table.new marks.new result }
+pub fn pass(t: &mut Tables<'_>, to: Reached) -> bool
+    requires { ReadyIn t.old × (to.depth < 9) × Bounded to.facts }
+    ensures passed { PassedIn t.old to.depth (toward (word_count t.old.image.now) to.depth to.pc to.facts) t.new result }
+    ensures lent { SameLoans t.old t.new }
 {
-    if image.len() / 2 <= to.pc {
+    if t.image.len() / 2 <= to.pc {
         return false;
     }
     let facts = to.facts;
@@ -82,38 +86,26 @@ pub fn pass(image: &[u8], asked: &[u8], table: &mut [u8], marks: &mut [u64], to:
         reached: true,
         facts,
     };
-    hand_on(image, asked, table, marks, to.depth, to.pc, d)
+    hand_on(t, to.depth, to.pc, d)
 }
 
 // The same where a test holds, and else nothing.
-pub fn pass_if(
-    image: &[u8],
-    asked: &[u8],
-    table: &mut [u8],
-    marks: &mut [u64],
-    to: Reached,
-    test: bool,
-) -> bool
-    requires { Ready image.now asked.now table.old marks.old × (to.depth < 9) × Bounded to.facts }
-    ensures { Passed image.now asked.now to.depth table.old marks.old (pick test (toward (word_count image.now) to.depth to.pc to.facts) []) table.new marks.new result }
+pub fn pass_if(t: &mut Tables<'_>, to: Reached, test: bool) -> bool
+    requires { ReadyIn t.old × (to.depth < 9) × Bounded to.facts }
+    ensures passed { PassedIn t.old to.depth (pick test (toward (word_count t.old.image.now) to.depth to.pc to.facts) []) t.new result }
+    ensures lent { SameLoans t.old t.new }
 {
     if test {
-        return pass(image, asked, table, marks, to);
+        return pass(t, to);
     }
     false
 }
 
 // MOVE, ADD, AND, XOR and XMIT.
-fn pass_act(
-    image: &[u8],
-    asked: &[u8],
-    table: &mut [u8],
-    marks: &mut [u64],
-    p: Reached,
-    a: Delivery,
-) -> bool
-    requires { Ready image.now asked.now table.old marks.old × (p.depth < 9) × InImage image.now p.pc × Bounded p.facts × (a.l < 8) }
-    ensures { Passed image.now asked.now p.depth table.old marks.old (word_passes (word_count image.now) p.depth p.pc p.facts (shape_of_delivery a)) table.new marks.new result }
+fn pass_act(t: &mut Tables<'_>, p: Reached, a: Delivery) -> bool
+    requires { ReadyIn t.old × (p.depth < 9) × InImage t.old.image.now p.pc × Bounded p.facts × (a.l < 8) }
+    ensures passed { PassedIn t.old p.depth (word_passes (word_count t.old.image.now) p.depth p.pc p.facts (shape_of_delivery a)) t.new result }
+    ensures lent { SameLoans t.old t.new }
 {
     let x = effects::argument_fact(p.facts, a);
     let facts = effects::facts_after(a.op, x, a.d, p.facts);
@@ -122,41 +114,29 @@ fn pass_act(
         facts,
         ..p
     };
-    pass(image, asked, table, marks, to)
+    pass(t, to)
 }
 
 // NZT: on, and away.
-fn pass_branch(
-    image: &[u8],
-    asked: &[u8],
-    table: &mut [u8],
-    marks: &mut [u64],
-    p: Reached,
-    w: Paged,
-) -> bool
-    requires { Ready image.now asked.now table.old marks.old × (p.depth < 9) × InImage image.now p.pc × Bounded p.facts × (w.l < 8) }
-    ensures { Passed image.now asked.now p.depth table.old marks.old (word_passes (word_count image.now) p.depth p.pc p.facts (branch_shape w)) table.new marks.new result }
+fn pass_branch(t: &mut Tables<'_>, p: Reached, w: Paged) -> bool
+    requires { ReadyIn t.old × (p.depth < 9) × InImage t.old.image.now p.pc × Bounded p.facts × (w.l < 8) }
+    ensures passed { PassedIn t.old p.depth (word_passes (word_count t.old.image.now) p.depth p.pc p.facts (branch_shape w)) t.new result }
+    ensures lent { SameLoans t.old t.new }
 {
     let v = callers::values_of(p.facts, w.s, w.l);
     let next = Reached { pc: p.pc + 1, ..p };
-    let on = pass_if(image, asked, table, marks, next, v.low == 0);
+    let on = pass_if(t, next, v.low == 0);
     let pc = control::in_page(w.page, p.pc, usize::from(w.i));
     let target = Reached { pc, ..p };
-    let away = pass_if(image, asked, table, marks, target, 1 < v.low + v.count);
+    let away = pass_if(t, target, 1 < v.low + v.count);
     on | away
 }
 
 // CALL: to every page that AUX may be, up to the last of the image.
-fn pass_call(
-    image: &[u8],
-    asked: &[u8],
-    table: &mut [u8],
-    marks: &mut [u64],
-    p: Reached,
-    i: u8,
-) -> bool
-    requires { Ready image.now asked.now table.old marks.old × (p.depth < 9) × Bounded p.facts }
-    ensures { Passed image.now asked.now p.depth table.old marks.old (word_passes (word_count image.now) p.depth p.pc p.facts (go (register 0 0 0) (call i))) table.new marks.new result }
+fn pass_call(t: &mut Tables<'_>, p: Reached, i: u8) -> bool
+    requires { ReadyIn t.old × (p.depth < 9) × Bounded p.facts }
+    ensures passed { PassedIn t.old p.depth (word_passes (word_count t.old.image.now) p.depth p.pc p.facts (go (register 0 0 0) (call i))) t.new result }
+    ensures lent { SameLoans t.old t.new }
 {
     if p.depth == state::PLACES {
         return false;
@@ -165,7 +145,7 @@ fn pass_call(
     let mut changed = false;
     for n in 0..v.count {
         let pc = (v.low + n) * 256 + usize::from(i);
-        if image.len() / 2 <= pc {
+        if t.image.len() / 2 <= pc {
             return changed;
         }
         let to = Reached {
@@ -173,28 +153,22 @@ fn pass_call(
             pc,
             ..p
         };
-        changed |= pass(image, asked, table, marks, to);
+        changed |= pass(t, to);
     }
     changed
 }
 
 // What a word that is executed at a point passes on; RET is told by walking::pass_back.
-pub fn pass_word(
-    image: &[u8],
-    asked: &[u8],
-    table: &mut [u8],
-    marks: &mut [u64],
-    p: Reached,
-    form: Form,
-) -> bool
-    requires { Ready image.now asked.now table.old marks.old × (p.depth < 9) × InImage image.now p.pc × Bounded p.facts × FormFits form }
-    ensures { Passed image.now asked.now p.depth table.old marks.old (word_passes (word_count image.now) p.depth p.pc p.facts (shape_is form)) table.new marks.new result }
+pub fn pass_word(t: &mut Tables<'_>, p: Reached, form: Form) -> bool
+    requires { ReadyIn t.old × (p.depth < 9) × InImage t.old.image.now p.pc × Bounded p.facts × FormFits form }
+    ensures passed { PassedIn t.old p.depth (word_passes (word_count t.old.image.now) p.depth p.pc p.facts (shape_is form)) t.new result }
+    ensures lent { SameLoans t.old t.new }
 {
     match form {
-        Form::Act(a) => pass_act(image, asked, table, marks, p, a),
-        Form::Jump { a } => pass(image, asked, table, marks, Reached { pc: a, ..p }),
-        Form::Branch(w) => pass_branch(image, asked, table, marks, p, w),
-        Form::Call { i } => pass_call(image, asked, table, marks, p, i),
+        Form::Act(a) => pass_act(t, p, a),
+        Form::Jump { a } => pass(t, Reached { pc: a, ..p }),
+        Form::Branch(w) => pass_branch(t, p, w),
+        Form::Call { i } => pass_call(t, p, i),
         Form::Defer(_) | Form::Return | Form::Invalid => false,
     }
 }

@@ -15,7 +15,7 @@ use callers::Asked;
 use facts::Cell;
 use forms::Form;
 use marks::{BORN, CHANGED, RETURNING};
-use passing::Reached;
+use passing::{Reached, Tables};
 
 // A cell whose turn it is: its number, depth and address, its record, and the form of its word.
 #[derive(Clone, Copy)]
@@ -85,7 +85,13 @@ fn own_turn(image: &[u8], table: &mut [u8], marks: &mut [u64], t: Due, changed: 
         pc: t.pc,
         facts,
     };
-    walking::pass_words(image, &image[..0], table, marks, p, t.form)
+    let mut tables = Tables {
+        image,
+        asked: &image[..0],
+        table,
+        marks,
+    };
+    walking::pass_words(&mut tables, p, t.form)
 }
 
 // Does the address after every call site at a depth hold what the hub there holds, and with it c?
@@ -118,6 +124,27 @@ fn keep_hub(marks: &mut [u64], hubs: &mut [u8], depth: usize, i: usize, c: Cell)
     cells::store(hubs, depth, wider, 0);
 }
 
+// RET back to a depth, joined in: no table is asked.
+fn walk_back(
+    image: &[u8],
+    table: &mut [u8],
+    marks: &mut [u64],
+    depth: usize,
+    facts: [u16; 11],
+) -> bool
+    requires { Ready image.now [] table.old marks.old × (depth < 9) × Bounded facts }
+    ensures { Passed image.now [] depth table.old marks.old (return_passes image.now table.old depth facts) table.new marks.new result }
+{
+    let none = &image[..0];
+    let mut tables = Tables {
+        image,
+        asked: none,
+        table,
+        marks,
+    };
+    walking::pass_back(&mut tables, depth, facts)
+}
+
 // The return of cell i to a depth: nothing where the hub there covers it.
 fn back_to(
     image: &[u8],
@@ -138,7 +165,7 @@ fn back_to(
     if covered(marks, hubs, depth, c) {
         return false;
     }
-    let r = walking::pass_back(image, &image[..0], table, marks, depth, facts);
+    let r = walk_back(image, table, marks, depth, facts);
     keep_hub(marks, hubs, depth, i, c);
     r
 }

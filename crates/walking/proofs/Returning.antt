@@ -22,6 +22,9 @@ use Rattle.transfer.specs.Passes.{over_down, point_at, toward, is_return, some, 
 use Rattle.callers.specs.Callers.{Held}
 use Rattle.bitset.specs.Bitset.{has, Last}
 use Rattle.marks.specs.Marks.{set_size, is_site}
+use denote.Ref.{Bor}
+use Rattle.passing.specs.declared.Tables.{Tables}
+use Rattle.passing.specs.Tables.{SameLoans}
 use Rattle.passing.specs.Passing.{asks, seen, Ready, Passed}
 use Rattle.transfer.proofs.Lists.{down_none, down_more, down_skip}
 use Rattle.transfer.proofs.Returns.{same_site, returns_same}
@@ -64,6 +67,13 @@ module _ (image asked marks : List ℕ) (depth a : ℕ) where
             let at : r - 1 ≡ 3 * set_size + point_at (word_count image) depth (r - (3 * set_size + depth * word_count image) - 1) = omega (arith, some) in
             ap (has marks) (sym at) ∙ last.found (omega (arith, some));
       })
+
+-- the same tables, lent on
+pub last_on : {s t : Tables} (m : List ℕ) (depth : ℕ) {b r : ℕ} → SameLoans s t → LastBelow (site_at t.image.now t.asked.now m depth) b r
+    → LastBelow (site_at s.image.now s.asked.now m depth) b r
+last_on {s} {t} m depth {b} {r} k last =
+    subst (λ (im : Bor (List ℕ)). LastBelow (site_at im.now s.asked.now m depth) b r) k.image
+    (subst (λ (asked : Bor (List ℕ)). LastBelow (site_at t.image.now asked.now m depth) b r) k.asked last)
 
 -- the number of a mark from `first` on
 pub sub_last : (first : ℕ) (r : Option ℕ) (last : ℕ) → SomeIff r (first + 1 ≤ last) (last - (first + 1)) → after_last r ≡ last - first

@@ -11,6 +11,7 @@ ghost use Rattle.cells.specs.Cells.{Bounded};
 ghost use Rattle.callers.specs.Callers.{span_is, InImage, Held};
 ghost use Rattle.transfer.specs.Passes.{gives, is_call_site, page_address, can_be_executed, words_at, some, is_return, all_passes, return_passes, cell_passes};
 ghost use Rattle.passing.specs.Passing.{asks, seen, Ready, Passed};
+ghost use Rattle.passing.specs.Tables.{ReadyIn, PassedIn, SameLoans};
 ghost use Rattle.marks.specs.Marks.{mark_words};
 ghost use Rattle.walking.specs.Walking.{site_at, after_last, LastBelow};
 
@@ -18,67 +19,47 @@ use callers::{Asked, Values};
 use control::Paged;
 use forms::Form;
 use marks::SITE;
-use passing::Reached;
+use passing::{Reached, Tables};
 
 // What the word at place k of the page passes on, if the XEC w at a point may execute it.
-fn pass_place(
-    image: &[u8],
-    asked: &[u8],
-    table: &mut [u8],
-    marks: &mut [u64],
-    p: Reached,
-    w: Paged,
-    v: Values,
-    k: usize,
-) -> bool
-    requires { Ready image.now asked.now table.old marks.old × (p.depth < 9) × InImage image.now p.pc × Bounded p.facts × (v.low + v.count ≤ 256) × (k < page_size w.page) }
-    ensures { Passed image.now asked.now p.depth table.old marks.old (all_passes (word_count image.now) p.depth p.pc p.facts (pick (gives (page_size w.page) w.i (span_is v) k && can_be_executed image.now (page_address (page_size w.page) p.pc k)) (shape_at image.now (page_address (page_size w.page) p.pc k) ∷ []) [])) table.new marks.new result }
+fn pass_place(t: &mut Tables<'_>, p: Reached, w: Paged, v: Values, k: usize) -> bool
+    requires { ReadyIn t.old × (p.depth < 9) × InImage t.old.image.now p.pc × Bounded p.facts × (v.low + v.count ≤ 256) × (k < page_size w.page) }
+    ensures passed { PassedIn t.old p.depth (all_passes (word_count t.old.image.now) p.depth p.pc p.facts (pick (gives (page_size w.page) w.i (span_is v) k && can_be_executed t.old.image.now (page_address (page_size w.page) p.pc k)) (shape_at t.old.image.now (page_address (page_size w.page) p.pc k) ∷ []) [])) t.new result }
+    ensures lent { SameLoans t.old t.new }
 {
     if !callers::gives(w, v, k) {
         return false;
     }
     let a = control::in_page(w.page, p.pc, k);
-    if image.len() / 2 <= a {
+    if t.image.len() / 2 <= a {
         return false;
     }
-    passing::pass_word(image, asked, table, marks, p, processor::form_at(image, a))
+    passing::pass_word(t, p, processor::form_at(t.image, a))
 }
 
 // What the words that an XEC at a point may execute pass on.
-fn pass_executed(
-    image: &[u8],
-    asked: &[u8],
-    table: &mut [u8],
-    marks: &mut [u64],
-    p: Reached,
-    w: Paged,
-) -> bool
-    requires { Ready image.now asked.now table.old marks.old × (p.depth < 9) × InImage image.now p.pc × Bounded p.facts × (w.l < 8) }
-    ensures { Passed image.now asked.now p.depth table.old marks.old (all_passes (word_count image.now) p.depth p.pc p.facts (words_at image.now p.pc p.facts (defer_shape w))) table.new marks.new result }
+fn pass_executed(t: &mut Tables<'_>, p: Reached, w: Paged) -> bool
+    requires { ReadyIn t.old × (p.depth < 9) × InImage t.old.image.now p.pc × Bounded p.facts × (w.l < 8) }
+    ensures passed { PassedIn t.old p.depth (all_passes (word_count t.old.image.now) p.depth p.pc p.facts (words_at t.old.image.now p.pc p.facts (defer_shape w))) t.new result }
+    ensures lent { SameLoans t.old t.new }
 {
     let v = callers::values_of(p.facts, w.s, w.l);
     let mut changed = false;
     for k in 0..w.page.size() {
-        changed |= pass_place(image, asked, table, marks, p, w, v, k);
+        changed |= pass_place(t, p, w, v, k);
     }
     changed
 }
 
 // What all the words that the cell at a point executes pass on.
-pub fn pass_words(
-    image: &[u8],
-    asked: &[u8],
-    table: &mut [u8],
-    marks: &mut [u64],
-    p: Reached,
-    form: Form,
-) -> bool
-    requires { Ready image.now asked.now table.old marks.old × (p.depth < 9) × InImage image.now p.pc × Bounded p.facts × FormFits form }
-    ensures { Passed image.now asked.now p.depth table.old marks.old (all_passes (word_count image.now) p.depth p.pc p.facts (words_at image.now p.pc p.facts (shape_is form))) table.new marks.new result }
+pub fn pass_words(t: &mut Tables<'_>, p: Reached, form: Form) -> bool
+    requires { ReadyIn t.old × (p.depth < 9) × InImage t.old.image.now p.pc × Bounded p.facts × FormFits form }
+    ensures passed { PassedIn t.old p.depth (all_passes (word_count t.old.image.now) p.depth p.pc p.facts (words_at t.old.image.now p.pc p.facts (shape_is form))) t.new result }
+    ensures lent { SameLoans t.old t.new }
 {
     match form {
-        Form::Defer(w) => pass_executed(image, asked, table, marks, p, w),
-        _ => passing::pass_word(image, asked, table, marks, p, form),
+        Form::Defer(w) => pass_executed(t, p, w),
+        _ => passing::pass_word(t, p, form),
     }
 }
 
@@ -107,63 +88,51 @@ fn asked_below(image: &[u8], asked: &[u8], depth: usize, a: usize) -> Option<usi
 }
 
 // The same, of the table that is asked or of the one whose marks these are.
-fn site_below(image: &[u8], asked: &[u8], marks: &[u64], depth: usize, a: usize) -> Option<usize>
-    requires { (word_count image.now ≤ 8192) × (asks asked.now ≡ true → Held image.now asked.now) × (asks asked.now ≡ false → length marks.now ≡ mark_words) × (depth < 9) × (a ≤ word_count image.now) }
-    ensures { LastBelow (site_at image.now asked.now marks.now depth) a (after_last result) }
+fn site_below(t: &Tables<'_>, depth: usize, a: usize) -> Option<usize>
+    requires { ReadyIn t.now × (depth < 9) × (a ≤ word_count t.now.image.now) }
+    ensures { LastBelow (site_at t.now.image.now t.now.asked.now t.now.marks.now depth) a (after_last result) }
 {
-    if 0 < asked.len() {
-        return asked_below(image, asked, depth, a);
+    if 0 < t.asked.len() {
+        return asked_below(t.image, t.asked, depth, a);
     }
-    let first = SITE + depth * (image.len() / 2);
-    bitset::last(marks, first, first + a).checked_sub(first + 1)
+    let first = SITE + depth * (t.image.len() / 2);
+    bitset::last(t.marks, first, first + a).checked_sub(first + 1)
 }
 
 // RET back to a depth: to the address after every call site there, from the last on, so that a cell that changes is
 // none that is still to be asked.
-pub fn pass_back(
-    image: &[u8],
-    asked: &[u8],
-    table: &mut [u8],
-    marks: &mut [u64],
-    depth: usize,
-    facts: [u16; 11],
-) -> bool
-    requires { Ready image.now asked.now table.old marks.old × (depth < 9) × Bounded facts }
-    ensures { Passed image.now asked.now depth table.old marks.old (return_passes image.now (seen asked.now table.old) depth facts) table.new marks.new result }
+pub fn pass_back(t: &mut Tables<'_>, depth: usize, facts: [u16; 11]) -> bool
+    requires { ReadyIn t.old × (depth < 9) × Bounded facts }
+    ensures passed { PassedIn t.old depth (return_passes t.old.image.now (seen t.old.asked.now t.old.table.now) depth facts) t.new result }
+    ensures lent { SameLoans t.old t.new }
 {
     let mut changed = false;
-    let mut end = image.len() / 2;
-    while let Some(site) = site_below(image, asked, marks, depth, end) {
+    let mut end = t.image.len() / 2;
+    while let Some(site) = site_below(t, depth, end) {
         let to = Reached {
             depth,
             pc: site + 1,
             facts,
         };
-        changed |= passing::pass(image, asked, table, marks, to);
+        changed |= passing::pass(t, to);
         end = site;
     }
     changed
 }
 
 // RET at a point, where the cell there executes one and the depth is not 0.
-fn pass_returns(
-    image: &[u8],
-    asked: &[u8],
-    table: &mut [u8],
-    marks: &mut [u64],
-    p: Reached,
-    form: Form,
-) -> bool
-    requires { Ready image.now asked.now table.old marks.old × (p.depth < 9) × InImage image.now p.pc × Bounded p.facts × FormFits form }
-    ensures { Passed image.now asked.now (p.depth - 1) table.old marks.old (pick (ltb 0 p.depth && some is_return (words_at image.now p.pc p.facts (shape_is form))) (return_passes image.now (seen asked.now table.old) (p.depth - 1) p.facts) []) table.new marks.new result }
+fn pass_returns(t: &mut Tables<'_>, p: Reached, form: Form) -> bool
+    requires { ReadyIn t.old × (p.depth < 9) × InImage t.old.image.now p.pc × Bounded p.facts × FormFits form }
+    ensures passed { PassedIn t.old (p.depth - 1) (pick (ltb 0 p.depth && some is_return (words_at t.old.image.now p.pc p.facts (shape_is form))) (return_passes t.old.image.now (seen t.old.asked.now t.old.table.now) (p.depth - 1) p.facts) []) t.new result }
+    ensures lent { SameLoans t.old t.new }
 {
     if p.depth == 0 {
         return false;
     }
-    if !callers::performs(image, p.pc, p.facts, form, Asked::Return) {
+    if !callers::performs(t.image, p.pc, p.facts, form, Asked::Return) {
         return false;
     }
-    pass_back(image, asked, table, marks, p.depth - 1, p.facts)
+    pass_back(t, p.depth - 1, p.facts)
 }
 
 // All that a reached cell with these facts passes on.
@@ -181,7 +150,13 @@ pub fn pass_cell(
 {
     let p = Reached { depth, pc, facts };
     let form = processor::form_at(image, pc);
-    let on = pass_words(image, asked, table, marks, p, form);
-    let back = pass_returns(image, asked, table, marks, p, form);
+    let mut t = Tables {
+        image,
+        asked,
+        table,
+        marks,
+    };
+    let on = pass_words(&mut t, p, form);
+    let back = pass_returns(&mut t, p, form);
     on | back
 }

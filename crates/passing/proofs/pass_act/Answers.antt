@@ -23,5 +23,9 @@ pub returns : goal.returns
 returns c =
     let a = c.args in
     let d = a.a in
-    act_passed a.image.now a.asked.now a.p.depth a.p.pc a.p.facts (delivery_source d) (operation_number d.op) (target_of d.d d.l) c.argument_fact-x.ensures.0
-    (c.facts_after-facts.ensures d.l) c.pass.ensures
+    record {
+      passed =
+          act_passed a.t.now.image.now a.t.now.asked.now a.p.depth a.p.pc a.p.facts (delivery_source d) (operation_number d.op) (target_of d.d d.l) c.argument_fact-x.ensures.0
+          (c.facts_after-facts.ensures d.l) c.pass.ensures.passed;
+      lent = c.pass.ensures.lent;
+    }

@@ -3,6 +3,7 @@ use mathlib.Core.Path.{subst}
 use Rattle.forms.specs.Forms.{FormFits}
 use Rattle.transfer.specs.Passes.{word_passes}
 use Rattle.passing.proofs.Going.{retold, none_told}
+use Rattle.passing.proofs.Loans.{loans_same}
 use Rattle.passing.proofs.pass_word.Goals as goal
 
 pub pass_act-requires : goal.pass_act-requires
@@ -13,13 +14,21 @@ pass_act-requires c =
 pub returns-in-Act : goal.returns-in-Act
 returns-in-Act c =
     let a = c.args in
-    retold a.image.now a.asked.now a.p.depth a.p.pc a.p.facts c.in-Act.is c.pass_act.ensures
+    record {
+      passed =
+          retold a.t.now.image.now a.t.now.asked.now a.p.depth a.p.pc a.p.facts c.in-Act.is c.pass_act.ensures.passed;
+      lent = c.pass_act.ensures.lent;
+    }
 
 pub returns-in-Jump : goal.returns-in-Jump
 unfolding word_passes
 returns-in-Jump c =
     let a = c.args in
-    retold a.image.now a.asked.now a.p.depth a.p.pc a.p.facts c.in-Jump.is c.pass.ensures
+    record {
+      passed =
+          retold a.t.now.image.now a.t.now.asked.now a.p.depth a.p.pc a.p.facts c.in-Jump.is c.pass.ensures.passed;
+      lent = c.pass.ensures.lent;
+    }
 
 pub pass_branch-requires : goal.pass_branch-requires
 pass_branch-requires c =
@@ -29,14 +38,26 @@ pass_branch-requires c =
 pub returns-in-Branch : goal.returns-in-Branch
 returns-in-Branch c =
     let a = c.args in
-    retold a.image.now a.asked.now a.p.depth a.p.pc a.p.facts c.in-Branch.is c.pass_branch.ensures
+    record {
+      passed =
+          retold a.t.now.image.now a.t.now.asked.now a.p.depth a.p.pc a.p.facts c.in-Branch.is c.pass_branch.ensures.passed;
+      lent = c.pass_branch.ensures.lent;
+    }
 
 pub returns-in-Call : goal.returns-in-Call
 returns-in-Call c =
     let a = c.args in
-    retold a.image.now a.asked.now a.p.depth a.p.pc a.p.facts c.in-Call.is c.pass_call.ensures
+    record {
+      passed =
+          retold a.t.now.image.now a.t.now.asked.now a.p.depth a.p.pc a.p.facts c.in-Call.is c.pass_call.ensures.passed;
+      lent = c.pass_call.ensures.lent;
+    }
 
 pub returns-in-Defer : goal.returns-in-Defer
 returns-in-Defer c =
     let a = c.args in
-    none_told a.image.now a.asked.now a.p.depth a.p.pc a.p.facts c.in-Defer.is c.requires.0
+    record {
+      passed =
+          none_told a.t.now.image.now a.t.now.asked.now a.p.depth a.p.pc a.p.facts c.in-Defer.is c.requires.0;
+      lent = loans_same;
+    }

@@ -18,8 +18,8 @@ returns-then-covered c =
     hub_covers a.image.now (λ k. (c.type_inv.image k).fits) a.table.now a.marks.now a.hubs.now a.depth a.facts start.requires.0 start.requires.1 start.requires.2 start.requires.3.deep
     (record { long = omega (arith, known); bounded = start.requires.5 }) (sym c.covered.ensures ∙ c.if-covered.true)
 
-pub pass_back-r-requires : goal.pass_back-r-requires
-pass_back-r-requires c =
+pub walk_back-r-requires : goal.walk_back-r-requires
+walk_back-r-requires c =
     let pre = c.requires in
     (record { words = pre.0.words; layout = pre.0.layout; sited = λ e. pre.1 }, pre.3.deep, pre.5)
 
@@ -28,7 +28,7 @@ keep_hub-requires c =
     let start = c in
     let pre = start.requires in
     let known = start.well_formed.0 in
-    let noted = c.pass_back-r.ensures.noted refl in
+    let noted = c.walk_back-r.ensures.noted refl in
     (noted.moves.sited.long, pre.2.layout, pre.3.deep, omega (arith, pre.3.inside, pre.0.words), reached_fine start.args.facts (record { long = omega (arith, known); bounded = pre.5 }))
 
 pub returns : goal.returns
@@ -37,4 +37,4 @@ returns c =
     let a = start.args in
     let known = start.well_formed.0 in
     hub_walked a.image.now (λ k. (c.type_inv.image k).fits) a.table.now a.marks.now a.hubs.now a.depth a.facts start.requires.0 start.requires.1 start.requires.2 start.requires.3.deep
-    (record { long = omega (arith, known); bounded = start.requires.5 }) a.i start.requires.3 start.requires.4 c.pass_back-r.ensures c.keep_hub.ensures
+    (record { long = omega (arith, known); bounded = start.requires.5 }) a.i start.requires.3 start.requires.4 c.walk_back-r.ensures c.keep_hub.ensures

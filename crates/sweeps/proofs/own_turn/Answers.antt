@@ -1,4 +1,5 @@
 -- `sweeps::own_turn` meets its contract. Assumes nothing.
+use Rattle.std.proofs.Common.{rules}
 use mathlib.Core.List.{[]}
 use Rattle.marks.specs.Marks.{own_passes}
 use Rattle.passing.proofs.Passing.{passed_as, passed_none, passed_not}
@@ -23,4 +24,6 @@ pub returns : goal.returns
 returns c =
     let start = c in
     let a = start.args in
-    passed_as (own_told a.image.now a.t.i a.t.depth a.t.pc start.requires.1 a.t.c a.changed (ap not c.if-not-changed.false) c.if-not-t.false start.requires.3) c.pass_words.ensures
+    let done = passed_as (own_told a.image.now a.t.i a.t.depth a.t.pc start.requires.1 a.t.c a.changed (ap not c.if-not-changed.false) c.if-not-t.false start.requires.3) c.pass_words.ensures.passed in
+    let lent = c.pass_words.ensures.lent in
+    search rules

@@ -2,10 +2,11 @@ use Rattle.machine.specs.Step.{word_count}
 use Rattle.transfer.specs.Passes.{all_passes}
 use Rattle.control.specs.Pages.{page_size}
 use Rattle.callers.specs.Callers.{span_is}
-use Rattle.passing.specs.Passing.{Passed}
+use Rattle.passing.specs.Tables.{PassedIn, SameLoans}
 use Rattle.walking.proofs.Executing.{executed_to}
 use Rattle.walking.proofs.pass_executed.Given as goal
 
 abbrev pub invariant-loop-k : goal.invariant-loop-k
 invariant-loop-k l =
-    Passed l.image l.asked l.p.depth l.initial.table l.initial.marks (all_passes (word_count l.image) l.p.depth l.p.pc l.p.facts (executed_to l.image l.p.pc (page_size l.w.page) l.w.i (span_is l.v) l.k)) l.table l.marks l.changed
+    PassedIn l.initial.t l.p.depth (all_passes (word_count l.initial.t.image.now) l.p.depth l.p.pc l.p.facts (executed_to l.initial.t.image.now l.p.pc (page_size l.w.page) l.w.i (span_is l.v) l.k)) l.t l.changed
+    × SameLoans l.initial.t l.t

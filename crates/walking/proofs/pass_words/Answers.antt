@@ -17,12 +17,20 @@ pass_executed-requires c =
 pub returns-in-Defer : goal.returns-in-Defer
 returns-in-Defer c =
     let a = c.args in
-    passed_as (ap (λ (f : Form). all_passes (word_count a.image.now) a.p.depth a.p.pc a.p.facts (words_at a.image.now a.p.pc a.p.facts (shape_is f))) c.in-Defer.is) c.pass_executed.ensures
+    record {
+      passed =
+          passed_as (ap (λ (f : Form). all_passes (word_count a.t.now.image.now) a.p.depth a.p.pc a.p.facts (words_at a.t.now.image.now a.p.pc a.p.facts (shape_is f))) c.in-Defer.is) c.pass_executed.ensures.passed;
+      lent = c.pass_executed.ensures.lent;
+    }
 
 pub returns-in_default : goal.returns-in_default
 returns-in_default c =
     let a = c.args in
-    passed_as
-    (ap (all_passes (word_count a.image.now) a.p.depth a.p.pc a.p.facts) (itself a.image.now a.p.pc a.p.facts a.form c.in_default.not-Defer)
-    ∙ all_one (word_count a.image.now) a.p.depth a.p.pc a.p.facts (shape_is a.form))
-    c.pass_word.ensures
+    record {
+      passed =
+          passed_as
+          (ap (all_passes (word_count a.t.now.image.now) a.p.depth a.p.pc a.p.facts) (itself a.t.now.image.now a.p.pc a.p.facts a.form c.in_default.not-Defer)
+          ∙ all_one (word_count a.t.now.image.now) a.p.depth a.p.pc a.p.facts (shape_is a.form))
+          c.pass_word.ensures.passed;
+      lent = c.pass_word.ensures.lent;
+    }
