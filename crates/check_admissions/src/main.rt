@@ -7,7 +7,9 @@ use refusal::Refusal;
 
 fn print_answer(answer: Result<Option<Failure>, Refusal>) {
     match answer {
-        Ok(None) => io::write_all(1, b"answer=admitted"),
+        Ok(None) => {
+            io::write_all(1, b"answer=admitted");
+        }
         Ok(Some(failure)) => {
             io::write_all(1, b"answer=finding:");
             io::print_decimal(1, u64::from(failure.fault.number()));
