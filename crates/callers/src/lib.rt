@@ -95,7 +95,7 @@ fn performs_at(image: &[u8], pc: usize, w: Paged, v: Values, k: usize, asked: As
     if image.len() / 2 <= a {
         return false;
     }
-    is_asked(processor::form_at(image, a), asked)
+    is_asked(forms::form_of(processor::word_at(image, a)), asked)
 }
 
 // The same at any place.
@@ -128,7 +128,7 @@ pub fn is_call_site(image: &[u8], table: &[u8], depth: usize, a: usize) -> bool
     if !cells::reached(table, at) {
         return false;
     }
-    match processor::form_at(image, a) {
+    match forms::form_of(processor::word_at(image, a)) {
         Form::Defer(w) => xec_performs(image, a, cells::load(table, at).facts, w, Asked::Call),
         form => is_call(form),
     }

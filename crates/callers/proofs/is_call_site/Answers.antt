@@ -1,5 +1,6 @@
 -- `callers::is_call_site` meets its contract. Assumes nothing.
 use mathlib.Core.Path.{refl, sym, ◌∙◌, ap, subst}
+use Rattle.processor.proofs.Forming.{read_shape}
 use native.Mathlib.Omega.{arith}
 use Rattle.forms.specs.Forms.{shape_is, FormFits}
 use Rattle.machine.specs.Step.{word_count}
@@ -40,17 +41,17 @@ pub xec_performs-requires : goal.xec_performs-requires
 xec_performs-requires c =
     let start = c in
     let a = start.args in
-    (record { words = start.requires.0.words; inside = start.requires.2 }, site_bounded a.image.now a.table.now a.depth a.a start.requires.0 start.requires.1 start.requires.2 c.load.ensures, subst FormFits c.in-Defer.is c.form_at.ensures.1)
+    (record { words = start.requires.0.words; inside = start.requires.2 }, site_bounded a.image.now a.table.now a.depth a.a start.requires.0 start.requires.1 start.requires.2 c.load.ensures, subst FormFits c.in-Defer.is c.form_of.ensures.1)
 
 pub returns-in-Defer : goal.returns-in-Defer
 returns-in-Defer c =
     let a = c.args in
     site a.image.now a.table.now a.depth a.a c.reached.ensures (ap not c.if-not-reached.false) c.load.ensures
-    (sym (ap shape_is c.in-Defer.is) ∙ c.form_at.ensures.0) c.xec_performs.ensures
+    (sym (ap shape_is c.in-Defer.is) ∙ read_shape a.image.now a.a c.word_at.ensures.0 c.form_of.ensures.0) c.xec_performs.ensures
 
 pub returns-in_default : goal.returns-in_default
 returns-in_default c =
     let a = c.args in
-    let form = c.form_at.result in
-    site a.image.now a.table.now a.depth a.a c.reached.ensures (ap not c.if-not-reached.false) refl c.form_at.ensures.0
+    let form = c.form_of.result in
+    site a.image.now a.table.now a.depth a.a c.reached.ensures (ap not c.if-not-reached.false) refl (read_shape a.image.now a.a c.word_at.ensures.0 c.form_of.ensures.0)
     (c.is_call.ensures ∙ sym (ap (some is_call) (itself a.image.now a.a _ form c.in_default.not-Defer) ∙ one_word is_call (shape_is form)))
