@@ -35,9 +35,6 @@ module _ (image map : List ℕ) (bytes : (k : ℕ) → get_or image k 0 < 256) (
   unfolding filled_table
   filled = marked_all image map (least_table image) least.fine least.long
 
-  pub filled_long : length (filled_table image map) ≡ table_length image
-  filled_long = let long = filled.long in omega arith
-
   pub filled_cells : SameCells image (filled_table image map) (least_table image)
   filled_cells = filled.cells
 

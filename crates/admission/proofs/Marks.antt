@@ -1,27 +1,22 @@
 -- The loop over the cells, depth by depth: it writes the findings and keeps the lowest. Assumes nothing.
-use mathlib.Core.Path.{◌≡◌, sym, ◌∙◌, ap, ap₂, subst, subst⁻¹}
-use mathlib.Core.Logic.{◌≢◌}
+use mathlib.Core.Path.{◌≡◌, ◌∙◌, ap, subst, subst⁻¹}
 use mathlib.Core.List.{List}
 use Prim.Native.Nat.{ℕ, ◌+◌, ◌*◌, ◌/◌, ◌%◌, ◌≤◌, ◌<◌}
 use native.Mathlib.Omega.{arith}
 use native.Mathlib.Nat.{div-add-mod', mod-lt, div-lt_iff_lt-mul}
 use lib.Arith.{digits_lt}
-use lib.Dec.{eqb}
 use lib.ListN.{length}
-use Rattle.choice.specs.Choice.{pick}
 use Rattle.machine.specs.Step.{word_count}
-use Rattle.facts.specs.declared.Cell.{Cell}
-use Rattle.facts.specs.Record.{record_size, depths, record_of, cell_at, put_record, FineCell}
+use Rattle.facts.specs.Record.{record_size, depths, record_of, cell_at, put_record}
 use Rattle.callers.specs.Callers.{Held}
-use Rattle.callers.proofs.Points.{past_all}
 use Rattle.transfer.specs.Passes.{point_at}
 use Rattle.transfer.specs.Findings.{finding_at}
-use Rattle.std.specs.Prelude.{Option, Some, None, Ok, IfSome, MatchOption}
+use Rattle.std.specs.Prelude.{Option, Some, Ok, IfSome, MatchOption}
 use Rattle.findings.specs.declared.Failure.{Failure}
 use Rattle.findings.specs.Findings.{failing}
 use Rattle.admission.specs.Admission.{with_findings, verdict_of, admit_told}
-use Rattle.admission.proofs.Marking.{Marking, marking_begins, marking_ends, marking_fine, marking_finding, marking_goes}
-use Rattle.admission.proofs.Verdict.{cell_finding, Telling, telling_begins, telling_next, telling_ends}
+use Rattle.admission.proofs.Marking.{Marking, marking_ends, marking_finding, marking_goes}
+use Rattle.admission.proofs.Verdict.{cell_finding, Telling, telling_next, telling_ends}
 
 -- ---- a cell's place
 
@@ -32,9 +27,6 @@ module _ (image table : List ℕ) (held : Held image table) (depth pc : ℕ) (d 
   pub room : record_size * point_at (word_count image) depth pc + record_size ≤ length table
   room = let i : point_at (word_count image) depth pc < depths * word_count image = digits_lt d l in omega (arith, held.long)
 
-  pub fine_here : (c : Cell) → c ≡ cell_at table (point_at (word_count image) depth pc) → FineCell c
-  fine_here c e = subst⁻¹ FineCell e (held.fine (point_at (word_count image) depth pc) (digits_lt d l))
-
 -- ---- the loop
 
 -- cell i is the next; t is the table now, of t₀; told is the lowest finding so far
@@ -43,14 +35,6 @@ pub record Marks (image map t₀ : List ℕ) (i : ℕ) (t : List ℕ) (told : Op
   pub telling : Telling image map t₀ i told
 
 module _ {image map t₀ : List ℕ} (held : Held image t₀) where
-  pub marks_begin : Marks image map t₀ 0 t₀ None
-  marks_begin = record { marking = marking_begins image map t₀ held.long; telling = telling_begins image map t₀ }
-
-  -- the table on the way
-  pub marks_held : (i : ℕ) (t : List ℕ) (told : Option Failure) → Marks image map t₀ i t told → Held image t
-  marks_held i t told m =
-      record { words = held.words; long = m.marking.long; fine = marking_fine image map t₀ held.fine i t m.marking }
-
   -- the finding of cell i is written, which leaves u, and told unless a lower one is
   pub marks_next : (i : ℕ) (t u : List ℕ) (before found kept : Option Failure) → i < depths * word_count image
       → Marks image map t₀ i t before

@@ -5,7 +5,7 @@ use mathlib.Core.Logic.{◌≢◌}
 use mathlib.Core.Path.{◌≡◌, refl, sym, ap, ◌∙◌, subst⁻¹}
 use Prim.Native.Nat.{ℕ, ◌*◌, ◌≤◌, ◌<◌}
 use native.Mathlib.Omega.{arith}
-use borrow.Author.Tests.{eq-eqb, ne_eqb, eqb-true}
+use borrow.Author.Tests.{eq-eqb, eqb-true}
 use lib.Dec.{eqb}
 use lib.ListN.{length, get_or}
 use Rattle.choice.specs.Choice.{ask, first_no}
@@ -20,11 +20,11 @@ use Rattle.transfer.specs.Passes.{table_length, sweep_bound, least_table, sweeps
 use Rattle.transfer.proofs.TableLaws.{least_table_lem}
 use Rattle.admission.specs.Admission.{AdmitAnswer}
 use Rattle.admission.specs.Admission.{Refused}
-use Rattle.std.specs.Prelude.{Result, Ok, Err, ⊤}
+use Rattle.std.specs.Prelude.{Err}
 use Rattle.refusal.specs.declared.Refusal.{Refusal}
 use Rattle.refusal.specs.Refusal.{refusal_number}
 use Rattle.admission.specs.declared.Answered.{Answered}
-use Rattle.admission.specs.Admission.{with_findings, filled_table, verdict_of, admit_told, door_number, admit_questions, AdmitResult, resulting, admit_result}
+use Rattle.admission.specs.Admission.{with_findings, filled_table, verdict_of, admit_told, admit_questions, AdmitResult, resulting, admit_result}
 
 -- what questions 11, 12 and 13 ask
 pub record Opened (image map table : List ℕ) : Type 0 where
@@ -33,20 +33,6 @@ pub record Opened (image map table : List ℕ) : Type 0 where
   pub room : length table ≡ table_length image
 
 module _ (image map table : List ℕ) where
-  -- the answers, one after another
-  pub asked_11 : image_fits image ≡ false → 11 ≡ first_no (admit_questions image map table)
-  asked_11 h = rw h
-
-  pub asked_12 : image_fits image ≡ true → (length map ≡ map_length → ⊥) → 12 ≡ first_no (admit_questions image map table)
-  asked_12 fits h = rw (fits, ne_eqb (length map) map_length h)
-
-  pub asked_13 : image_fits image ≡ true → length map ≡ map_length → (length table ≡ table_length image → ⊥)
-      → 13 ≡ first_no (admit_questions image map table)
-  asked_13 fits long h = rw (fits, eq-eqb (length map) map_length long, ne_eqb (length table) (table_length image) h)
-
-  pub asked_all : Opened image map table → 0 ≡ first_no (admit_questions image map table)
-  asked_all o = rw (o.fits, eq-eqb (length map) map_length o.long, eq-eqb (length table) (table_length image) o.room)
-
   -- what is refused was not swept
   pub unswept : {refusal : Refusal} {r : Answered} → r ≡ record { answer = Err refusal; sweeps = 0 }
       → resulting (Refused (refusal_number refusal)) 0 table ≡ admit_result image map table
@@ -89,11 +75,6 @@ module _ (image map table : List ℕ) where
     yields e s v w =
         (λ k. resulting ((v ∙ ap (verdict_of image map) e) k) (s k) ((w ∙ ap (λ (t : List ℕ). with_findings image map t t 0 (depths * word_count image)) e) k))
         ∙ sym let_in_lem
-
--- a door that does not refuse has the number 0
-pub let_through : (r : Result ⊤ Refusal) → ((refusal : Refusal) → r ≡ Err refusal → ⊥) → door_number r ≡ 0
-let_through (Ok fine) other = refl
-let_through (Err refusal) other = absurd (other refusal refl)
 
 -- the filled table is one that a loop over its cells can read
 pub least_held : (image filled : List ℕ) → ((k : ℕ) → get_or image k 0 < 256) → image_fits image ≡ true → filled ≡ least_table image → Held image filled

@@ -1,5 +1,5 @@
 -- Admission ("Admission fills the table" and "Questions at the door" of document 01).
-use Rattle.std.specs.Prelude.{◌≡◌, true, List, [], ◌∷◌, ℕ, zero, suc, ◌*◌, ◌/◌, ◌%◌, ltb, eqb, length, Option, Some, None, Result, Ok, Err, ⊤}
+use Rattle.std.specs.Prelude.{◌≡◌, true, List, [], ◌∷◌, ℕ, zero, suc, ◌*◌, ◌/◌, ◌%◌, ltb, eqb, length, Option, Some, None, Result, Ok, Err}
 use Rattle.choice.specs.Choice.{pick, Question, ask, asked}
 use Rattle.map.specs.Map.{map_length}
 use Rattle.machine.specs.Step.{word_count}
@@ -35,7 +35,7 @@ admit_told (Ok (Some failure)) = Found (fault_number failure.fault) failure.dept
 admit_told (Err refusal) = Refused (refusal_number refusal)
 
 -- what the door answers: 0 where no question gets a no
-abbrev pub door_number : Result ⊤ Refusal → ℕ
+abbrev pub door_number : {A : Type 0} → Result A Refusal → ℕ
 door_number (Ok fine) = 0
 door_number (Err refusal) = refusal_number refusal
 

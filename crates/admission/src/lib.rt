@@ -1,9 +1,8 @@
 // Admission: a program is read before it runs. Fills the lent table of facts and answers.
 #![tactic(auto)]
 
-ghost use Rattle.std.specs.Prelude.{◌≡◌, ◌*◌, ◌≤◌, ◌<◌, length, Some, Ok, Err, IfSome, MatchOption};
+ghost use Rattle.std.specs.Prelude.{◌≡◌, ◌*◌, ◌≤◌, ◌<◌, Some, Ok, Err, IfOk, IfSome, MatchOption};
 ghost use Rattle.choice.specs.Choice.{first_no};
-ghost use Rattle.map.specs.Map.{map_length};
 ghost use Rattle.machine.specs.Step.{word_count};
 ghost use Rattle.facts.specs.Record.{depths, record_of, cell_at, put_record};
 ghost use Rattle.transfer.specs.Passes.{point_at, sweep_bound};
@@ -49,8 +48,14 @@ fn failure(found: Result<(), Fault>, depth: usize, address: usize) -> Option<Fai
 }
 
 // Writes the finding of a cell into its record, and tells it.
-fn mark_cell(image: &[u8], map: &[u8], table: &mut [u8], depth: usize, pc: usize) -> Option<Failure>
-    requires { Held image.now table.old × (length map.now ≡ map_length) × (depth < 9) × (pc < word_count image.now) }
+fn mark_cell(
+    image: &[u8],
+    map: &[u8; map::LENGTH],
+    table: &mut [u8],
+    depth: usize,
+    pc: usize,
+) -> Option<Failure>
+    requires { Held image.now table.old × (depth < 9) × (pc < word_count image.now) }
     ensures number { failing result ≡ finding_at image.now map.now table.old (point_at (word_count image.now) depth pc) }
     ensures cell { IfSome result (λ f. (f.depth ≡ depth) × (f.address ≡ pc)) }
     ensures table { table.new ≡ put_record table.old (point_at (word_count image.now) depth pc) (record_of (cell_at table.old (point_at (word_count image.now) depth pc)) (failing result)) }
@@ -73,8 +78,8 @@ fn keep_lower(before: Option<Failure>, found: Option<Failure>) -> Option<Failure
 }
 
 // Writes the finding of every cell, and tells the first.
-fn mark(image: &[u8], map: &[u8], table: &mut [u8]) -> Option<Failure>
-    requires { Held image.now table.old × (length map.now ≡ map_length) × (0 < word_count image.now) }
+fn mark(image: &[u8], map: &[u8; map::LENGTH], table: &mut [u8]) -> Option<Failure>
+    requires { Held image.now table.old × (0 < word_count image.now) }
     ensures { (admit_told (Ok result) ≡ verdict_of image.now map.now table.old) × (table.new ≡ with_findings image.now map.now table.old table.old 0 (depths * word_count image.now)) }
 {
     let words = image.len() / 2;
@@ -86,20 +91,21 @@ fn mark(image: &[u8], map: &[u8], table: &mut [u8]) -> Option<Failure>
     first
 }
 
-// Questions 11, 12 and 13: the refusal is that of the first that gets a no.
-pub fn door(image: &[u8], map: &[u8], table: &[u8]) -> Result<(), Refusal>
-    ensures { door_number result ≡ first_no (admit_questions image.now map.now table.now) }
+// Questions 11, 12 and 13: the refusal is that of the first that gets a no; with none, the map.
+pub fn door<'a>(image: &[u8], map: &'a [u8], table: &[u8]) -> Result<&'a [u8; map::LENGTH], Refusal>
+    ensures number { door_number result ≡ first_no (admit_questions image.now map.now table.now) }
+    ensures map { IfOk result (λ m. m.now ≡ map.now) }
 {
     if !emulator::image_fits(image) {
         return Err(Refusal::Image);
     }
-    if map.len() != map::LENGTH {
+    let Ok(map) = <&[u8; map::LENGTH]>::try_from(map) else {
         return Err(Refusal::Map);
-    }
+    };
     if table.len() != image.len() / 2 * facts::WORD_RECORDS {
         return Err(Refusal::Table);
     }
-    Ok(())
+    Ok(map)
 }
 
 // A refusal at the door: no sweep was made.
@@ -117,9 +123,10 @@ fn refused(refusal: Refusal) -> Answered
 pub fn admit(image: &[u8], map: &[u8], table: &mut [u8]) -> Answered
     ensures { (resulting (admit_told result.answer) result.sweeps table.new ≡ admit_result image.now map.now table.old) × (result.sweeps ≤ sweep_bound image.now) }
 {
-    if let Err(refusal) = door(image, map, table) {
-        return refused(refusal);
-    }
+    let map = match door(image, map, table) {
+        Ok(map) => map,
+        Err(refusal) => return refused(refusal),
+    };
     let sweeps = filling::fill(image, table);
     let first = mark(image, map, table);
     Answered {

@@ -32,11 +32,6 @@ module _ (l : List ℕ) where
             at_word l a j (omega arith) (omega arith) (h.none (j - a * 64) (omega arith) (omega arith));
       }
 
-  -- no number down to the start
-  pub last_none : {from end mid : ℕ} → Clear l mid end → mid ≤ from → from ≤ end → Last l from end from
-  last_none c low high =
-      record { low = omega arith; high = high; none = λ j g m. c.none j (omega arith) m; found = λ h. absurd (omega arith) }
-
   -- one past the word's highest one, or the start after it
   pub last_some : (a : ℕ) {from end k m : ℕ} → k < 64 → Highest (get_or l a 0) k m → Clear l (a * 64 + k + 1) end
       → a * 64 + k + 1 ≤ end → from ≤ end → Last l from end (max (a * 64 + m + 1) from)

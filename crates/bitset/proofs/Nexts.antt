@@ -62,11 +62,6 @@ module _ (l : List ℕ) where
             at_word a j (omega arith) (omega (arith, h.high)) (h.none (j - a * 64) (omega arith) (omega arith));
       }
 
-  -- no number up to the end
-  pub next_none : {from end mid : ℕ} → Clear l from mid → from ≤ end → end ≤ mid → Next l from end end
-  next_none c low high =
-      record { low = low; high = omega arith; none = λ j g m. c.none j g (omega arith); found = λ h. absurd (omega arith) }
-
   -- the word's lowest one, or the end before it
   pub next_some : (a : ℕ) {from end k m : ℕ} → Clear l from (a * 64 + k) → Lowest (get_or l a 0) k m → from ≤ a * 64 + k
       → from ≤ end → Next l from end (min (a * 64 + m) end)

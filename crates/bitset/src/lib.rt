@@ -54,7 +54,7 @@ fn next_word(set: &[u64], from: usize, end: usize) -> usize
     end
 }
 
-// The least number of the set from `from` on, below `end`; `end` where there is none.
+// The least number of the set from `from` on, below `end`; `end` where there is none, as `Next` says.
 pub fn next(set: &[u64], from: usize, end: usize) -> usize
     requires { (from ≤ end) × (end ≤ 64 * length set.now) }
     ensures { Next set.now from end result }
@@ -98,7 +98,7 @@ fn last_word(set: &[u64], from: usize, end: usize) -> usize
     from
 }
 
-// One more than the greatest number of the set from `from` on, below `end`; `from` where there is none.
+// One more than the greatest number of the set from `from` on, below `end`; `from` where there is none, as `Last` says.
 pub fn last(set: &[u64], from: usize, end: usize) -> usize
     requires { (from ≤ end) × (end ≤ 64 * length set.now) }
     ensures { Last set.now from end result }

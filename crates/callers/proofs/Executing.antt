@@ -1,18 +1,16 @@
 -- What an XEC may execute, place by place of its page.
 use mathlib.Core.Path.{◌≡◌, refl, sym, ap, ap₂, ◌∙◌}
-use mathlib.Core.Bool.{Bool, true, false, ◌&&◌, ◌||◌, not, or-false, true≢false, false≢true}
+use mathlib.Core.Bool.{Bool, true, false, ◌&&◌, ◌||◌, not, or-false, true≢false}
 use mathlib.Core.List.{List, [], ◌∷◌, ◌++◌}
-use Prim.Native.Nat.{ℕ, zero, suc, ◌+◌, ◌*◌, ◌/◌, ◌%◌, ◌^◌, ◌≤◌, ◌<◌}
+use Prim.Native.Nat.{ℕ, zero, suc, ◌+◌, ◌*◌, ◌/◌, ◌<◌}
 use native.Mathlib.Nat.{mod-eq_of_lt}
 use native.Mathlib.Omega.{arith}
 use lib.Dec.{ltb}
-use lib.Pow.{pow_mono}
-use borrow.Author.Tests.{lt-leb, le-leb, lt-ltb, le-ltb, eq-eqb, ne_eqb}
+use borrow.Author.Tests.{lt-ltb}
 use Rattle.choice.specs.Choice.{pick}
-use Rattle.field.specs.Field.{width_of}
-use Rattle.machine.specs.Shape.{Source, register, slot_of, source_of, defer, Shape, go}
+use Rattle.machine.specs.Shape.{Source, defer, Shape, go}
 use Rattle.machine.specs.Step.{word_count, shape_at, in_page}
-use Rattle.facts.specs.Facts.{unknown, source_fact, Span, span_of}
+use Rattle.facts.specs.Facts.{Span, span_of}
 use Rattle.transfer.specs.Passes.{over, gives, page_address, can_be_executed, is_defer, some, words_at}
 use Rattle.callers.specs.declared.Values.{Values}
 use Rattle.callers.specs.Callers.{span_is, asks}
@@ -20,37 +18,6 @@ use Rattle.callers.specs.declared.Asked.{Asked}
 use Rattle.callers.specs.declared.Asked.TheVariants.{Call, Return}
 use Rattle.std.specs.List.{list_any, range_with_len}
 use Rattle.callers.proofs.Words.{no_xec}
-
--- ---- values of a source
-
-pub unknown_values : (facts : List ℕ) (s l f : ℕ) → s < 16 → f ≡ source_fact (source_of s 0 0 l) facts → f ≡ unknown
-    → record { low = 0; count = 256 } ≡ span_of (source_of s 0 0 l) facts
-unknown_values facts s l f h e u =
-    let low = lt-leb 16 s h in
-    let fact : source_fact (source_of s 0 0 l) facts ≡ unknown = sym e ∙ u in
-    rw low (let g = rw low at fact in rw (eq-eqb _ unknown g) refl)
-
-pub known_values : (facts : List ℕ) (s l f : ℕ) → s < 16 → f ≡ source_fact (source_of s 0 0 l) facts → (f ≡ unknown → ⊥)
-    → record { low = f; count = 1 } ≡ span_of (source_of s 0 0 l) facts
-known_values facts s l f h e n =
-    let low = lt-leb 16 s h in
-    let g : f ≡ source_fact (register (slot_of s) 0 0) facts = rw low at e in
-    rw low (rw (← g, ne_eqb f unknown n) refl)
-
-pub bank_values : (facts : List ℕ) (s l : ℕ) → 16 ≤ s → record { low = 0; count = 2 ^ width_of l } ≡ span_of (source_of s 0 0 l) facts
-bank_values facts s l h = rw (le-leb 16 s h) refl
-
-pub whole_values : (facts : List ℕ) (s l : ℕ) → 16 ≤ s → l ≡ 0 → record { low = 0; count = 256 } ≡ span_of (source_of s 0 0 l) facts
-whole_values facts s l h e = rw e (bank_values facts s 0 h)
-
-pub field_values : (facts : List ℕ) (s l : ℕ) → 16 ≤ s → (l ≡ 0 → ⊥) → l < 8
-    → (record { low = 0; count = 1 * 2 ^ l % 18446744073709551616 } ≡ span_of (source_of s 0 0 l) facts)
-    × (0 + 1 * 2 ^ l % 18446744073709551616 ≤ 256)
-field_values facts s l h n short =
-    let most : 2 ^ l ≤ 256 = pow_mono {j = 8} (omega arith) in
-    let same : 1 * 2 ^ l % 18446744073709551616 ≡ 2 ^ l = ap (λ x. x % 18446744073709551616) {x = 1 * 2 ^ l} {y = 2 ^ l} (omega arith) ∙ mod-eq_of_lt (omega arith) in
-    let width : 2 ^ width_of l ≡ 2 ^ l = rw (ne_eqb l 0 n) refl in
-    (ap (λ x. record { low = 0; count = x }) (same ∙ sym width) ∙ bank_values facts s l h, rw same (omega arith))
 
 -- ---- places of a page
 
@@ -107,20 +74,6 @@ module _ (image : List ℕ) (pc page i : ℕ) (v : Values) (k : ℕ) (asked : As
   abbrev performed : Bool
   performed =
       (gives page i (span_is v) k && can_be_executed image (page_address page pc k)) && asks asked (shape_at image (page_address page pc k))
-
-  pub not_given : (b : Bool) → b ≡ gives page i (span_is v) k → not b ≡ true → false ≡ performed
-  not_given true e h = absurd (false≢true h)
-  not_given false e h = rw (← e) refl
-
-  pub not_inside : k < page → {a : ℕ} → a ≡ in_page page pc k → word_count image ≤ a → false ≡ performed
-  not_inside short e h =
-      let at = e ∙ in_page_lem page pc k short in
-      let out : ltb (page_address page pc k) (word_count image) ≡ false = rw (← at) (le-ltb _ (word_count image) h) in
-      rw out (nothing (gives page i (span_is v) k) (asks asked (shape_at image (page_address page pc k))))
-    where
-      nothing : (b c : Bool) → false ≡ (b && false) && c
-      nothing true c = refl
-      nothing false c = refl
 
   pub is_executed : k < page → (b : Bool) → b ≡ gives page i (span_is v) k → not b ≡ false → {a : ℕ} → a ≡ in_page page pc k → a < word_count image
       → {s : Shape} → s ≡ shape_at image a → {r : Bool} → r ≡ asks asked s → r ≡ performed

@@ -17,10 +17,6 @@ module _ (n depth a : ℕ) (h : a < n) where
   pub point_small : depth < 9 → n ≤ 8192 → depth * n + a < 73728
   point_small l m = omega (arith, point_inside l, m)
 
-  -- its record lies inside the table
-  pub point_room : depth < 9 → 16 * (depth * n + a) + 16 ≤ 16 * (9 * n)
-  point_room l = omega (arith, point_inside l)
-
   pub point_depth : (depth * n + a) / n ≡ depth
   point_depth = mul-add-div_right {m = n} (omega arith) depth a ∙ ap (λ q. depth + q) (div-eq_of_lt h) ∙ omega arith
 
@@ -28,11 +24,3 @@ module _ (n depth a : ℕ) (h : a < n) where
   point_address = ap (λ m. m % n) {x = depth * n + a} {y = a + depth * n} (omega arith) ∙ add-mul-mod_self_right a depth n ∙ mod-eq_of_lt h
 
 -- ---- the next cell, in table order
-pub next_address : (n depth a : ℕ) → depth * n + (a + 1) ≡ depth * n + a + 1
-next_address n depth a = omega arith
-
-pub next_depth : (n depth a : ℕ) → a + 1 ≡ n → (depth + 1) * n + 0 ≡ depth * n + a + 1
-next_depth n depth a e = omega arith
-
-pub past_all : (n depth a : ℕ) → 9 ≤ depth → 9 * n ≤ depth * n + a
-past_all n depth a h = let row : 9 * n ≤ depth * n = mul-le-mul h (le_refl n) in omega arith

@@ -7,10 +7,10 @@ ghost use Rattle.control.specs.Pages.{page_size, defer_shape};
 ghost use Rattle.forms.specs.Forms.{shape_is, FormFits};
 ghost use Rattle.machine.specs.Step.{word_count, shape_at};
 ghost use Rattle.facts.specs.Facts.{span_of};
-ghost use Rattle.cells.specs.Cells.{Bounded};
 ghost use Rattle.transfer.specs.Passes.{gives, page_address, can_be_executed, is_call, is_return, some, words_at, is_call_site};
 ghost use Rattle.callers.specs.Callers.{span_is, asks, InImage, Held};
 
+use cells::known::Facts;
 use control::Paged;
 use forms::Form;
 
@@ -22,18 +22,17 @@ pub struct Values {
 }
 
 // The values of the source s, or of its field of length l where it is a bank.
-pub fn values_of(facts: [u16; 11], s: usize, l: usize) -> Values
-    requires { Bounded facts × (l < 8) }
+pub fn values_of(facts: Facts, s: usize, l: usize) -> Values
+    requires { l < 8 }
     ensures { (span_is result ≡ span_of (source_of s 0 0 l) facts) × (result.low + result.count ≤ 256) }
 {
     if s < word::FIRST_BANK {
-        let f = effects::fact_of(facts, s, 0);
-        if f == facts::UNKNOWN {
-            return Values { low: 0, count: 256 };
-        }
-        return Values {
-            low: usize::from(f),
-            count: 1,
+        return match effects::fact_of(facts, s, 0).value() {
+            Some(x) => Values {
+                low: usize::from(x),
+                count: 1,
+            },
+            None => Values { low: 0, count: 256 },
         };
     }
     if l == 0 {
@@ -83,7 +82,8 @@ fn is_asked(form: Form, asked: Asked) -> bool
     }
 }
 
-// May an XEC at pc execute such a word at place k of its page?
+// May an XEC at pc execute such a word at place k of its page? The form is told in line: by `processor::form_at` a check of N/4 returns
+// takes 77 % more (docs/RATES.md). `walking` and `findings` go over the page too: what they do at a place, and when they end, differs.
 fn performs_at(image: &[u8], pc: usize, w: Paged, v: Values, k: usize, asked: Asked) -> bool
     requires { InImage image.now pc × (v.low + v.count ≤ 256) × (k < page_size w.page) }
     ensures { result ≡ (gives (page_size w.page) w.i (span_is v) k && can_be_executed image.now (page_address (page_size w.page) pc k)) && asks asked (shape_at image.now (page_address (page_size w.page) pc k)) }
@@ -99,8 +99,8 @@ fn performs_at(image: &[u8], pc: usize, w: Paged, v: Values, k: usize, asked: As
 }
 
 // The same at any place.
-fn xec_performs(image: &[u8], pc: usize, facts: [u16; 11], w: Paged, asked: Asked) -> bool
-    requires { InImage image.now pc × Bounded facts × (w.l < 8) }
+fn xec_performs(image: &[u8], pc: usize, facts: Facts, w: Paged, asked: Asked) -> bool
+    requires { InImage image.now pc × (w.l < 8) }
     ensures { result ≡ some (asks asked) (words_at image.now pc facts (defer_shape w)) }
 {
     let v = values_of(facts, w.s, w.l);
@@ -108,8 +108,8 @@ fn xec_performs(image: &[u8], pc: usize, facts: [u16; 11], w: Paged, asked: Aske
 }
 
 // May the cell at pc with these facts and its word execute a CALL, or a RET?
-pub fn performs(image: &[u8], pc: usize, facts: [u16; 11], form: Form, asked: Asked) -> bool
-    requires { InImage image.now pc × Bounded facts × FormFits form }
+pub fn performs(image: &[u8], pc: usize, facts: Facts, form: Form, asked: Asked) -> bool
+    requires { InImage image.now pc × FormFits form }
     ensures { result ≡ some (asks asked) (words_at image.now pc facts (shape_is form)) }
 {
     match form {
@@ -129,7 +129,7 @@ pub fn is_call_site(image: &[u8], table: &[u8], depth: usize, a: usize) -> bool
         return false;
     }
     match forms::form_of(processor::word_at(image, a)) {
-        Form::Defer(w) => xec_performs(image, a, cells::load(table, at).facts, w, Asked::Call),
+        Form::Defer(w) => xec_performs(image, a, Facts::of(cells::load(table, at)), w, Asked::Call),
         form => is_call(form),
     }
 }

@@ -84,12 +84,11 @@ fn hex(s: &[u8], from: usize, out: &mut [u8]) -> usize
 }
 
 // A number of the generator's bytes.
-fn lcg(seed: usize, count: usize, out: &mut [u8]) -> usize
-    requires { seed < 4294967296 }
+fn lcg(seed: u32, count: usize, out: &mut [u8]) -> usize
     ensures { Expanded (generated seed (min count (length out.old))) out.old out.new result }
 {
     let n = within(count, out);
-    digest::generate(seed as u64, &mut out[..n]);
+    digest::generate(seed, &mut out[..n]);
     n
 }
 
@@ -117,12 +116,11 @@ fn put(out: &mut [u8], at: usize, room: usize, high: u8, low: u8) -> usize
 }
 
 // The generator's valid words, among 65,536, for a number of bytes: more than half of the words are valid.
-fn valid(seed: usize, count: usize, out: &mut [u8]) -> usize
-    requires { seed < 4294967296 }
+fn valid(seed: u32, count: usize, out: &mut [u8]) -> usize
     ensures { Expanded (valid_words 65536 seed (min count (length out.old))) out.old out.new result }
 {
     let room = within(count, out);
-    let mut x = seed as u64;
+    let mut x = seed;
     let mut at = 0;
     for _ in 0..65536usize {
         let y = digest::next(x);
@@ -141,14 +139,14 @@ pub fn expand(s: &[u8], from: usize, out: &mut [u8]) -> usize
     let count = number(s, after(s, first, b':'));
     match s.get(from).copied().unwrap_or(0) {
         b'h' => hex(s, first, out),
-        b'l' => lcg(number(s, first), count, out),
+        b'l' => lcg(number(s, first) as u32, count, out),
         b'f' => fill(
             pair(s, first).unwrap_or(0),
             pair(s, first + 2).unwrap_or(0),
             2 * count,
             out,
         ),
-        b'v' => valid(number(s, first), 2 * count, out),
+        b'v' => valid(number(s, first) as u32, 2 * count, out),
         _ => 0,
     }
 }

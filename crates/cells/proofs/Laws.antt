@@ -37,14 +37,6 @@ facts_at b (x ∷ r) k (suc n) l h =
     ap₂ (λ (f : ℕ) (rest : List ℕ). f ∷ rest) (h 0 (omega arith) ∙ ap (fact_at b) {x = k + 0} {y = k} (omega arith))
     (facts_at b r (suc k) n (omega (arith, l)) (λ j m. h (suc j) (omega arith) ∙ ap (fact_at b) {x = k + suc j} {y = suc k + j} (omega arith)))
 
--- one of a table's chunks
-pub chunk_at : (n k : ℕ) (xs : List ℕ) (i : ℕ) (d : List ℕ) → i < k → get_or (first_chunks n k xs) i d ≡ take n (drop (n * i) xs)
-chunk_at n zero xs i d h = absurd (omega arith)
-chunk_at n (suc k) xs zero d h = ap (λ (j : ℕ). take n (drop j xs)) {x = 0} {y = n * 0} (omega arith)
-chunk_at n (suc k) xs (suc i) d h =
-    chunk_at n k (drop n xs) i d (omega arith) ∙ ap (take n) (drop-drop (n * i) n xs)
-    ∙ ap (λ (j : ℕ). take n (drop j xs)) {x = n + n * i} {y = n * suc i} (omega (arith, mul-suc n i))
-
 -- its first byte tells whether the cell is reached
 pub first_byte : (t : List ℕ) (i : ℕ) → eqb (get_or t (record_size * i) 0) 1 ≡ (cell_at t i).reached
 unfolding cell_at read_cell

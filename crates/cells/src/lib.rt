@@ -7,6 +7,8 @@ ghost use Rattle.facts.specs.Facts.{fact_count, unknown, is_known};
 ghost use Rattle.facts.specs.Record.{record_size, facts_from, read_cell, cell_at, mask_of, value_byte, record_of, put_record, put_cell, FineCell, holds_cell, join_cell};
 ghost use Rattle.cells.specs.Cells.{HasCell};
 
+pub mod known;
+
 use facts::{Cell, RECORD, UNKNOWN};
 use std::array;
 
@@ -67,7 +69,7 @@ fn value_byte(f: u16) -> u8
     u8::try_from(f).unwrap_or(0)
 }
 
-// A cell's record, with its finding.
+// A cell's record, with the byte of its finding.
 fn record_of(c: Cell, finding: u8) -> [u8; RECORD]
     requires { FineCell c }
     ensures { result ≡ record_of c finding }

@@ -2,9 +2,7 @@
 // lent. Prints the numbers that come out in hexadecimal, and the digests of the lent bytes afterwards.
 #![tactic(auto)]
 
-ghost use Rattle.std.specs.Prelude.{◌≤◌, length};
-
-use harness::Tally;
+use harness::{Fields, Tally};
 
 // Writes the opcode and the fields that a number has.
 fn again(n: u64) -> u64 {
@@ -32,18 +30,17 @@ fn print_number(n: u64) {
     io::print_hex(1, n, 16);
 }
 
-// A number of the text as a word.
-fn bits_at(s: &[u8], at: usize) -> u16 {
-    (cases::number(s, at) % 65536) as u16
+// A field's number as a word.
+fn bits(fields: &mut Fields) -> u16 {
+    (fields.number() % 65536) as u16
 }
 
-// Each call, from the place of its first field on; the next field is behind the next '='.
+// Each call, with the fields of its line.
 
-fn words(s: &[u8], at: usize)
-    requires { at ≤ length s.now }
-{
-    let last = cases::after(s, at, b'=');
-    let t = read(bits_at(s, at), bits_at(s, last));
+fn words(mut fields: Fields) {
+    let first = bits(&mut fields);
+    let last = bits(&mut fields);
+    let t = read(first, last);
     io::write_all(1, b"valid=");
     io::print_decimal(1, t.valid as u64);
     io::write_all(1, b" equal=");
@@ -52,160 +49,85 @@ fn words(s: &[u8], at: usize)
     io::print_hex(1, t.sum, 16);
 }
 
-fn decode(s: &[u8], at: usize)
-    requires { at ≤ length s.now }
-{
-    print_number(riptide::riptide_read_word(bits_at(s, at)));
+fn decode(mut fields: Fields) {
+    print_number(riptide::riptide_read_word(bits(&mut fields)));
 }
 
-fn encode(s: &[u8], at: usize)
-    requires { at ≤ length s.now }
-{
-    let at2 = cases::after(s, at, b'=');
-    let at3 = cases::after(s, at2, b'=');
-    let at4 = cases::after(s, at3, b'=');
+fn encode(mut fields: Fields) {
     print_number(riptide::riptide_write_word(
-        cases::number(s, at),
-        cases::number(s, at2),
-        cases::number(s, at3),
-        cases::number(s, at4),
+        fields.number(),
+        fields.number(),
+        fields.number(),
+        fields.number(),
     ));
 }
 
-fn count(s: &[u8], at: usize)
-    requires { at ≤ length s.now }
-{
+fn count(mut fields: Fields) {
     let mut map = io::buffer();
-    let n = cases::expand(s, at, &mut map);
-    print_number(riptide::riptide_count_sets(&map[..n]));
+    print_number(riptide::riptide_count_sets(fields.bytes(&mut map)));
 }
 
-fn reset(state: &mut [u8]) {
+fn state(mut fields: Fields) {
+    let mut state = io::buffer();
+    let state = fields.bytes(&mut state);
     print_number(riptide::riptide_reset(state));
     harness::print_digest(b" state_digest=", state);
 }
 
-fn state(s: &[u8], at: usize)
-    requires { at ≤ length s.now }
-{
-    let mut state = io::buffer();
-    let n = cases::expand(s, at, &mut state);
-    reset(&mut state[..n]);
-}
-
-// The lent table is a5 throughout before.
-fn admit_over(image: &[u8], map: &[u8], table: &mut [u8]) {
-    digest::repeat(165, 165, table);
+fn admit(mut fields: Fields) {
+    let mut image = io::large_buffer();
+    let image = fields.bytes(&mut image);
+    let mut map = io::buffer();
+    let map = fields.bytes(&mut map);
+    let mut table: [u8; harness::LONGEST_TABLE] = harness::lent();
+    let table = fields.part(&mut table);
     print_number(riptide::riptide_admit(image, map, table));
     harness::print_digest(b" table_digest=", table);
 }
 
-// Lends as much of the room as the case asks for.
-fn lend(image: &[u8], map: &[u8], room: &mut [u8], count: usize) {
-    let n = cases::within(count, room);
-    admit_over(image, map, &mut room[..n]);
-}
-
-fn admit(s: &[u8], at: usize)
-    requires { at ≤ length s.now }
-{
-    let mut image = io::large_buffer();
-    let mut map = io::buffer();
-    let mut table = harness::table_buffer();
-    let image_count = cases::expand(s, at, &mut image);
-    let at2 = cases::after(s, at, b'=');
-    let map_count = cases::expand(s, at2, &mut map);
-    let at3 = cases::after(s, at2, b'=');
-    lend(
-        &image[..image_count],
-        &map[..map_count],
-        &mut table,
-        cases::number(s, at3),
-    );
-}
-
 // The table comes along with the case, and is only read.
-fn hold_over(image: &[u8], map: &[u8], table: &[u8]) {
+fn hold(mut fields: Fields) {
+    let mut image = io::large_buffer();
+    let image = fields.bytes(&mut image);
+    let mut map = io::buffer();
+    let map = fields.bytes(&mut map);
+    let mut table = io::buffer();
+    let table = fields.bytes(&mut table);
     print_number(riptide::riptide_check(image, map, table));
     harness::print_digest(b" table_digest=", table);
 }
 
-fn hold(s: &[u8], at: usize)
-    requires { at ≤ length s.now }
-{
+fn foretell(mut fields: Fields) {
     let mut image = io::large_buffer();
+    print_number(riptide::riptide_foretell(fields.bytes(&mut image)));
+}
+
+fn run(mut fields: Fields) {
+    let mut image = io::large_buffer();
+    let image = fields.bytes(&mut image);
     let mut map = io::buffer();
-    let mut table = io::buffer();
-    let image_count = cases::expand(s, at, &mut image);
-    let at2 = cases::after(s, at, b'=');
-    let map_count = cases::expand(s, at2, &mut map);
-    let at3 = cases::after(s, at2, b'=');
-    let table_count = cases::expand(s, at3, &mut table);
-    hold_over(
-        &image[..image_count],
-        &map[..map_count],
-        &table[..table_count],
-    );
-}
-
-fn foretell(s: &[u8], at: usize)
-    requires { at ≤ length s.now }
-{
-    let mut image = io::large_buffer();
-    let n = cases::expand(s, at, &mut image);
-    print_number(riptide::riptide_foretell(&image[..n]));
-}
-
-// The lent trace is a5 throughout before.
-fn run_over(image: &[u8], map: &[u8], state: &mut [u8], recording: &[u8], trace: &mut [u8]) {
-    digest::repeat(165, 165, trace);
+    let map = fields.bytes(&mut map);
+    let mut state = io::buffer();
+    let state = fields.bytes(&mut state);
+    let mut recording = io::large_buffer();
+    let recording = fields.bytes(&mut recording);
+    let mut trace: [u8; 262144] = harness::lent();
+    let trace = fields.part(&mut trace);
     print_number(riptide::riptide_run(image, map, state, recording, trace));
     harness::print_digest(b" state_digest=", state);
     harness::print_digest(b" trace_digest=", trace);
 }
 
-fn run(s: &[u8], at: usize)
-    requires { at ≤ length s.now }
-{
-    let mut image = io::large_buffer();
-    let mut map = io::buffer();
-    let mut state = io::buffer();
-    let mut recording = io::large_buffer();
-    let mut trace = [0; 262144];
-    let image_count = cases::expand(s, at, &mut image);
-    let at2 = cases::after(s, at, b'=');
-    let map_count = cases::expand(s, at2, &mut map);
-    let at3 = cases::after(s, at2, b'=');
-    let state_count = cases::expand(s, at3, &mut state);
-    let at4 = cases::after(s, at3, b'=');
-    let recording_count = cases::expand(s, at4, &mut recording);
-    let at5 = cases::after(s, at4, b'=');
-    let trace_count = cases::within(cases::number(s, at5), &trace);
-    run_over(
-        &image[..image_count],
-        &map[..map_count],
-        &mut state[..state_count],
-        &recording[..recording_count],
-        &mut trace[..trace_count],
-    );
-}
-
-// The lent page is a5 throughout before.
 fn list_over(image: &[u8], page: &mut [u8]) {
-    digest::repeat(165, 165, page);
     print_number(riptide::riptide_list(image, page));
     harness::print_digest(b" page_digest=", page);
 }
 
-fn list(s: &[u8], at: usize)
-    requires { at ≤ length s.now }
-{
+fn list(mut fields: Fields) {
     let mut image = io::large_buffer();
-    let mut page = [0; 262176];
-    let image_count = cases::expand(s, at, &mut image);
-    let at2 = cases::after(s, at, b'=');
-    let page_count = cases::within(cases::number(s, at2), &page);
-    list_over(&image[..image_count], &mut page[..page_count]);
+    let image = fields.bytes(&mut image);
+    let mut page: [u8; 262176] = harness::lent();
+    list_over(image, fields.part(&mut page));
 }
 
 // The words that rise from a first one.
@@ -217,12 +139,10 @@ fn rise(first: u16, image: &mut [u8]) {
 }
 
 // An image of 8,192 words, each the one before it and 1.
-fn block(s: &[u8], at: usize)
-    requires { at ≤ length s.now }
-{
+fn block(mut fields: Fields) {
     let mut image = [0; 16384];
-    let mut page = [0; 262144];
-    rise(bits_at(s, at), &mut image);
+    let mut page: [u8; 262144] = harness::lent();
+    rise(bits(&mut fields), &mut image);
     list_over(&image, &mut page);
 }
 
@@ -234,52 +154,35 @@ fn print_lines(page: &[u8], count: usize) {
     }
 }
 
-fn tail_over(image: &[u8], page: &mut [u8], count: usize) {
+// The page is as long as the image's.
+fn tail(mut fields: Fields) {
+    let mut image = io::large_buffer();
+    let image = fields.bytes(&mut image);
+    let mut page = [0; 262176];
+    let page = harness::part_of(&mut page, image.len() / 2 * 32);
     print_number(riptide::riptide_list(image, page));
     io::write_all(1, b"\n");
-    print_lines(page, count);
+    print_lines(page, fields.number());
 }
 
-fn tail(s: &[u8], at: usize)
-    requires { at ≤ length s.now }
-{
-    let mut image = io::large_buffer();
-    let mut page = [0; 262176];
-    let image_count = cases::expand(s, at, &mut image);
-    let at2 = cases::after(s, at, b'=');
-    let page_count = cases::within(image_count / 2 * 32, &page);
-    tail_over(
-        &image[..image_count],
-        &mut page[..page_count],
-        cases::number(s, at2),
-    );
-}
-
-// A call by the first letter of its kind.
-fn call(kind: u8, s: &[u8], at: usize)
-    requires { at ≤ length s.now }
-{
-    match kind {
-        b'w' => words(s, at),
-        b'd' => decode(s, at),
-        b'e' => encode(s, at),
-        b'c' => count(s, at),
-        b's' => state(s, at),
-        b'a' => admit(s, at),
-        b'h' => hold(s, at),
-        b'f' => foretell(s, at),
-        b'l' => list(s, at),
-        b'b' => block(s, at),
-        b't' => tail(s, at),
-        _ => run(s, at),
+// A call whose line a text begins with: its kind, of which the first letter tells the call, its name, then its fields. Each call is
+// named here alone.
+fn case(line: &[u8]) {
+    let fields = harness::print_title(line);
+    match line.first().copied().unwrap_or(0) {
+        b'w' => words(fields),
+        b'd' => decode(fields),
+        b'e' => encode(fields),
+        b'c' => count(fields),
+        b's' => state(fields),
+        b'a' => admit(fields),
+        b'h' => hold(fields),
+        b'f' => foretell(fields),
+        b'l' => list(fields),
+        b'b' => block(fields),
+        b't' => tail(fields),
+        _ => run(fields),
     }
-}
-
-// A call whose line a text begins with: its kind, its name, then its fields.
-fn case(s: &[u8]) {
-    let end = harness::print_title(s);
-    let kind = s.first().copied().unwrap_or(0);
-    call(kind, s, cases::after(s, end, b'='));
     io::write_all(1, b"\n");
 }
 

@@ -48,7 +48,7 @@ fn item(name: &[u8], value: u64) {
 
 // The number of two bytes, low byte first.
 fn number(b: &[u8], low: usize, high: usize) -> u64 {
-    u64::from(byte_at(b, low)) + 256 * u64::from(byte_at(b, high))
+    u64::from(u16::from_le_bytes([byte_at(b, low), byte_at(b, high)]))
 }
 
 fn hex_item(name: &[u8], value: u8) {
@@ -56,32 +56,15 @@ fn hex_item(name: &[u8], value: u8) {
     io::print_hex(1, u64::from(value), 2);
 }
 
-// The data that the step's record has, where its kind is that of data.
-fn written(trace: &[u8]) {
-    let kind = byte_at(trace, 0);
-    if kind == 3 {
-        hex_item(b" writes 0x", byte_at(trace, 2));
-        return;
+// The byte of the step's record at a place, named by the record's kind; a record of another kind has none.
+fn recorded(trace: &[u8], at: usize, names: [(u8, &[u8]); 2], none: &[u8]) {
+    for (kind, name) in names {
+        if byte_at(trace, 0) == kind {
+            hex_item(name, byte_at(trace, at));
+            return;
+        }
     }
-    if kind == 4 {
-        hex_item(b" writes right 0x", byte_at(trace, 2));
-        return;
-    }
-    io::write_all(1, b" writes nothing");
-}
-
-// The address that the step's record has, where its kind is that of a chosen address.
-fn chosen(trace: &[u8]) {
-    let kind = byte_at(trace, 0);
-    if kind == 1 {
-        hex_item(b" left address 0x", byte_at(trace, 1));
-        return;
-    }
-    if kind == 2 {
-        hex_item(b" right address 0x", byte_at(trace, 1));
-        return;
-    }
-    io::write_all(1, b" no address");
+    io::write_all(1, none);
 }
 
 fn print_one(name: u8, state: &[u8], trace: &[u8]) {
@@ -95,8 +78,18 @@ fn print_one(name: u8, state: &[u8], trace: &[u8]) {
         b'6' => hex_item(b" R6 0x", byte_at(state, 11)),
         b'E' => hex_item(b" R11 0x", byte_at(state, 12)),
         b'L' => hex_item(b" left latch 0x", byte_at(state, 16)),
-        b'w' => written(trace),
-        _ => chosen(trace),
+        b'w' => recorded(
+            trace,
+            2,
+            [(3, b" writes 0x"), (4, b" writes right 0x")],
+            b" writes nothing",
+        ),
+        _ => recorded(
+            trace,
+            1,
+            [(1, b" left address 0x"), (2, b" right address 0x")],
+            b" no address",
+        ),
     }
 }
 

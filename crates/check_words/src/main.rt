@@ -5,20 +5,9 @@
 use harness::Tally;
 use word::Word;
 
-// A case's number and its fields in the order of the word, 0 where there is none.
-#[derive(Clone, Copy)]
-struct Listed {
-    kind: u8,
-    a: usize,
-    b: usize,
-    c: usize,
-}
-
-fn entry(kind: u8, a: usize, b: usize, c: usize) -> Listed {
-    Listed { kind, a, b, c }
-}
-
-fn fields_of(w: Word) -> Listed {
+// The first five of a word's eight bytes for the digest: its kind, by a number that stands in the digest alone, and its fields in the
+// order of the word, 0 where there is none, the last one in two bytes.
+fn read_bytes(w: Word) -> [u8; 5] {
     match w {
         Word::Move { s, rl, d } => entry(0, s, rl, d),
         Word::Add { s, rl, d } => entry(1, s, rl, d),
@@ -37,6 +26,11 @@ fn fields_of(w: Word) -> Listed {
     }
 }
 
+fn entry(kind: u8, a: usize, b: usize, c: usize) -> [u8; 5] {
+    let [low, high, ..] = c.to_le_bytes();
+    [kind, a.to_le_bytes()[0], b.to_le_bytes()[0], low, high]
+}
+
 // What writing gave: 1 and the word's two bytes, or 0, 0, 22.
 fn written_of(again: Option<u16>) -> [u8; 3] {
     match again {
@@ -48,33 +42,18 @@ fn written_of(again: Option<u16>) -> [u8; 3] {
     }
 }
 
-// The eight bytes of a word for the digest.
-fn bytes_of(l: Listed, written: [u8; 3]) -> [u8; 8] {
-    let c = l.c.to_le_bytes();
-    let [good, high, low] = written;
-    [
-        l.kind,
-        l.a.to_le_bytes()[0],
-        l.b.to_le_bytes()[0],
-        c[0],
-        c[1],
-        good,
-        high,
-        low,
-    ]
-}
-
 // Reads the words from first to last.
 fn read(first: u16, last: u16) -> Tally {
     let mut t = Tally::none();
     for bits in first..=last {
         let w = word::decode(bits);
-        let l = fields_of(w);
         let again = encoding::encode(w);
+        let [kind, a, b, low, high] = read_bytes(w);
+        let [good, first, second] = written_of(again);
         t = t.with(
-            l.kind != 13,
+            w != Word::Invalid,
             again == Some(bits),
-            &bytes_of(l, written_of(again)),
+            &[kind, a, b, low, high, good, first, second],
         );
     }
     t
@@ -89,8 +68,8 @@ fn line(name: &[u8], first: u16, last: u16) {
     let t = read(first, last);
     io::write_all(1, b"read ");
     io::write_all(1, name);
-    field(b" first=", first as u64);
-    field(b" last=", last as u64);
+    field(b" first=", u64::from(first));
+    field(b" last=", u64::from(last));
     field(b" valid=", t.valid as u64);
     io::write_all(1, b" digest=");
     io::print_hex(1, t.sum, 16);

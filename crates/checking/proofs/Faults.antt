@@ -1,9 +1,9 @@
 -- What a cell fails with. Assumes nothing.
-use mathlib.Core.Path.{◌≡◌, sym, ◌∙◌, ap, subst, subst⁻¹}
-use mathlib.Core.Bool.{Bool, true, false, not, true≢false}
+use mathlib.Core.Path.{◌≡◌, sym, ◌∙◌, ap, subst}
+use mathlib.Core.Bool.{Bool, true, false, not}
 use mathlib.Core.List.{List}
 use mathlib.Core.Logic.{◌≢◌}
-use Prim.Native.Nat.{ℕ, ◌*◌, ◌/◌, ◌%◌, ◌<◌}
+use Prim.Native.Nat.{ℕ, ◌/◌, ◌%◌, ◌<◌}
 use native.Mathlib.Omega.{arith}
 use lib.ListN.{length}
 use borrow.Author.Tests.{eq-eqb, ne_eqb, lt-ltb, not-true}
@@ -12,10 +12,10 @@ use Rattle.machine.specs.Step.{word_count}
 use Rattle.flow.specs.Flow.{changes_all, all_covered}
 use Rattle.flow.proofs.Rest.{all_covered-nil}
 use Rattle.facts.specs.declared.Cell.{Cell}
-use Rattle.facts.specs.Record.{depths, cell_at, Layout}
+use Rattle.facts.specs.Record.{cell_at}
 use Rattle.transfer.specs.Passes.{point_at, cell_passes, passes_from, table_space}
 use Rattle.transfer.specs.Findings.{cell_questions, finding_at}
-use Rattle.passing.specs.Passing.{Laid, seen, Ready, Passed}
+use Rattle.passing.specs.Passing.{Laid, seen, Passed}
 use Rattle.passing.proofs.Joining.{sees_asked}
 use Rattle.walking.proofs.Cell.{nothing_passed, reached_passes}
 use Rattle.checking.specs.Check.{fault_at}
@@ -45,15 +45,6 @@ module _ (image map table : List ℕ) (i : ℕ) where
 -- a table has records
 pub some_records : (image table : List ℕ) (pc : ℕ) → Laid image table → pc < word_count image → 0 < length table
 some_records image table pc l h = omega (arith, l.layout.long)
-
--- it is asked, so nothing need be lent to join into and to mark
-pub asked_ready : (image table none unmarked : List ℕ) → Laid image table → 0 < length table → Ready image table none unmarked
-asked_ready image table none unmarked g some =
-    record {
-      words = g.words;
-      layout = subst⁻¹ (Layout (depths * word_count image)) (sees_asked table none some) g.layout;
-      sited = λ out. absurd (true≢false (sym (lt-ltb 0 (length table) some) ∙ out));
-    }
 
 -- the walk over what a reached cell passes on
 pub walked : (image map table : List ℕ) (depth pc : ℕ) → pc < word_count image → 0 < length table → {b : Bool} {c : Cell}

@@ -24,17 +24,8 @@ use Rattle.admission.specs.Admission.{admit_questions}
 use Rattle.admission.proofs.Opening.{Opened}
 use Rattle.checking.specs.Check.{CheckAnswer}
 use Rattle.checking.specs.Check.{Refused, Accepted, Failed}
-use Rattle.std.specs.Prelude.{Option, Result, Ok, Err, IsErrAnd}
-use Rattle.refusal.specs.declared.Refusal.{Refusal}
-use Rattle.refusal.specs.Refusal.{refusal_number}
-use Rattle.findings.specs.declared.Failure.{Failure}
-use Rattle.checking.specs.Check.{check_told, layout_at, start_held, fault_at, in_order, judged, CheckResult, answering, check_result}
+use Rattle.checking.specs.Check.{layout_at, start_held, fault_at, in_order, judged, CheckResult, answering, check_result}
 use Rattle.checking.proofs.Scanning.{fails_first, asks_next, fits_of, number_42}
-
--- what `?` hands on is told as the refusal that came
-pub refused_as : (r : Result (Option Failure) Refusal) (refusal : Refusal) → IsErrAnd r (λ e. e ≡ refusal) → check_told r ≡ Refused (refusal_number refusal)
-refused_as (Ok failure) refusal none = absurd none
-refused_as (Err e) refusal same = ap (λ (x : Refusal). Refused (refusal_number x)) same
 
 module _ (image map table : List ℕ) where
   abbrev cells : ℕ

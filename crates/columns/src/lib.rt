@@ -53,7 +53,7 @@ pub fn put_line(out: &mut [u8], at: usize, address: usize, high: u8, low: u8) ->
     requires { at + line_length ≤ length out.old }
     ensures { Written out.old at (page_line address (high * 256 + low)) out.new result }
 {
-    let w = usize::from(high) * 256 + usize::from(low);
+    let w = usize::from(u16::from_be_bytes([high, low]));
     let b = text::put_octal(out, at, address, 5);
     let c = put_number(out, b, w, 6);
     let d = text::put(out, c, b" ");

@@ -37,15 +37,14 @@ pub struct Paged {
     pub i: u8,
 }
 
-// On at another PC; flag and pending address zero.
+// On at another PC; nothing is pending.
 pub fn go_to(pc: usize, depth: usize) -> Effect
     ensures { result ≡ go_effect pc depth }
 {
     Effect {
         q: Sequencer {
             pc,
-            flag: 0,
-            pending: 0,
+            pending: None,
             depth,
         },
         event: Event::Quiet,
@@ -53,13 +52,12 @@ pub fn go_to(pc: usize, depth: usize) -> Effect
 }
 
 // The word at another address is executed next, at this PC.
-fn defer_to(q: Sequencer, pending: usize) -> Effect
-    ensures { result ≡ defer_effect q pending }
+fn defer_to(q: Sequencer, at: usize) -> Effect
+    ensures { result ≡ defer_effect q at }
 {
     Effect {
         q: Sequencer {
-            flag: 1,
-            pending,
+            pending: Some(at),
             ..q
         },
         event: Event::Quiet,
@@ -76,8 +74,14 @@ pub fn in_page(page: Page, pc: usize, x: usize) -> usize
 }
 
 // XEC of a register or of a bank's field.
-pub fn xec(map: &[u8], bus: [u8; 2], w: Paged, q: Sequencer, values: &[u8; 11]) -> Effect
-    requires { Ready map.now q × (w.l < 8) }
+pub fn xec(
+    map: &[u8; map::LENGTH],
+    bus: [u8; 2],
+    w: Paged,
+    q: Sequencer,
+    values: &[u8; 11],
+) -> Effect
+    requires { Ready q × (w.l < 8) }
     ensures { (a b : List ℕ) → outcome result values.now a b ≡ word_step map.now (defer_shape w) bus (whole q values.now a b) }
 {
     if !machine::act::may_read(map, values, w.s) {
@@ -88,8 +92,14 @@ pub fn xec(map: &[u8], bus: [u8; 2], w: Paged, q: Sequencer, values: &[u8; 11]) 
 }
 
 // NZT of a register or of a bank's field.
-pub fn nzt(map: &[u8], bus: [u8; 2], w: Paged, q: Sequencer, values: &[u8; 11]) -> Effect
-    requires { Ready map.now q × (w.l < 8) }
+pub fn nzt(
+    map: &[u8; map::LENGTH],
+    bus: [u8; 2],
+    w: Paged,
+    q: Sequencer,
+    values: &[u8; 11],
+) -> Effect
+    requires { Ready q × (w.l < 8) }
     ensures { (a b : List ℕ) → outcome result values.now a b ≡ word_step map.now (branch_shape w) bus (whole q values.now a b) }
 {
     if !machine::act::may_read(map, values, w.s) {

@@ -1,8 +1,7 @@
 // Words that deliver a source to a target: MOVE, ADD, AND, XOR, XMIT.
 #![tactic(auto)]
 
-ghost use Rattle.std.specs.Prelude.{◌≡◌, List, ℕ, ◌<◌, length};
-ghost use Rattle.map.specs.Map.{map_length};
+ghost use Rattle.std.specs.Prelude.{◌≡◌, List, ℕ, ◌<◌};
 ghost use Rattle.machine.specs.Shape.{target_of, slot, latch, bank_of, position_of};
 ghost use Rattle.machine.specs.Step.{value_of, with_overflow, may_read, word_step};
 ghost use Rattle.machine.specs.Parts.{whole, outcome, act_effect, operation_number, masked_into, delivered, taken_source, delivery_source, shape_of_delivery, Ready};
@@ -28,8 +27,7 @@ fn went(q: Sequencer, event: Event) -> Effect
     Effect {
         q: Sequencer {
             pc: q.pc + 1,
-            flag: 0,
-            pending: 0,
+            pending: None,
             depth: q.depth,
         },
         event,
@@ -39,14 +37,14 @@ fn went(q: Sequencer, event: Event) -> Effect
 // To a register or a bus address, by its slot. The result is worked out in each arm: worked out once, before them, it takes 3
 // instructions a step more (of 91, the timing image).
 fn to_slot(
-    map: &[u8],
+    map: &[u8; map::LENGTH],
     op: Operation,
     x: u8,
     k: usize,
     q: Sequencer,
     values: &mut [u8; 11],
 ) -> Effect
-    requires { Ready map.now q × (k < 11) }
+    requires { Ready q × (k < 11) }
     ensures { (l s : List ℕ) → outcome result values.new l s ≡ delivered map.now (operation_number op) x (slot k) (whole q values.old l s) }
 {
     let aux = values[0];
@@ -57,7 +55,7 @@ fn to_slot(
         return went(q, Event::Quiet);
     }
     let y = machine::act::result(op, aux, x);
-    if !map::listed(map, k - state::ADDRESS, usize::from(y)) {
+    if !map::listed(map, k - state::ADDRESS, y) {
         return q.stopped(Stop::Unlisted);
     }
     set_overflow(op, aux, x, values);
@@ -73,7 +71,7 @@ fn to_slot(
 
 // To a bank: merged into its latch, which is then the byte written at its address.
 fn to_latch(
-    map: &[u8],
+    map: &[u8; map::LENGTH],
     op: Operation,
     x: u8,
     d: usize,
@@ -82,12 +80,12 @@ fn to_latch(
     values: &mut [u8; 11],
     latches: &mut [u8; 2],
 ) -> Effect
-    requires { Ready map.now q × (l < 8) }
+    requires { Ready q × (l < 8) }
     ensures { (s : List ℕ) → outcome result values.new latches.new s ≡ delivered map.now (operation_number op) (masked_into (operation_number op) l d x) (latch (bank_of d) (position_of d) l) (whole q values.old latches.old s) }
 {
     let aux = values[0];
     let bank = d / 8 % 2;
-    if !map::writable(map, bank, usize::from(values[state::ADDRESS + bank])) {
+    if !map::writable(map, bank, values[state::ADDRESS + bank]) {
         return q.stopped(Stop::Unwritable);
     }
     let summand = machine::act::masked(op, x, l, d);
@@ -106,7 +104,7 @@ fn to_latch(
 
 // Delivers the source x to the target d, of length l in a bank.
 fn deliver(
-    map: &[u8],
+    map: &[u8; map::LENGTH],
     op: Operation,
     x: u8,
     d: usize,
@@ -115,7 +113,7 @@ fn deliver(
     values: &mut [u8; 11],
     latches: &mut [u8; 2],
 ) -> Effect
-    requires { Ready map.now q × (l < 8) }
+    requires { Ready q × (l < 8) }
     ensures { (s : List ℕ) → outcome result values.new latches.new s ≡ delivered map.now (operation_number op) (masked_into (operation_number op) l d x) (target_of d l) (whole q values.old latches.old s) }
 {
     if d < word::FIRST_BANK {
@@ -126,8 +124,7 @@ fn deliver(
 }
 
 // Where the source is a bank: is the bank's address readable?
-fn may_take(map: &[u8], values: &[u8; 11], a: Delivery) -> bool
-    requires { length map.now ≡ map_length }
+fn may_take(map: &[u8; map::LENGTH], values: &[u8; 11], a: Delivery) -> bool
     ensures { result ≡ may_read map.now (delivery_source a) values.now }
 {
     match a.from {
@@ -150,17 +147,17 @@ fn argument(values: &[u8; 11], bus: [u8; 2], a: Delivery) -> u8
     }
 }
 
-// MOVE, ADD, AND, XOR, XMIT. The values, the latches and the call stack are lent apart from the sequencer, here and above, so
-// that they stay in place in the loop over steps.
+// MOVE, ADD, AND, XOR, XMIT. The values, the latches and the call stack are lent apart from the sequencer, here, in `processor` and in
+// `emulator`, so that they stay in place in the loop over steps (docs/DECISIONS.md has the measured shapes).
 pub fn act(
-    map: &[u8],
+    map: &[u8; map::LENGTH],
     bus: [u8; 2],
     a: Delivery,
     q: Sequencer,
     values: &mut [u8; 11],
     latches: &mut [u8; 2],
 ) -> Effect
-    requires { Ready map.now q × (a.l < 8) }
+    requires { Ready q × (a.l < 8) }
     ensures { (t : List ℕ) → outcome result values.new latches.new t ≡ word_step map.now (shape_of_delivery a) bus (whole q values.old latches.old t) }
 {
     if !may_take(map, values, a) {

@@ -33,23 +33,21 @@ pub fn add(h: u64, bytes: &[u8]) -> u64
 }
 
 // The generator's next number.
-pub fn next(x: u64) -> u64
-    requires { x < 4294967296 }
+pub fn next(x: u32) -> u32
     ensures { result ≡ next_number x }
 {
-    (x * 1103515245 + 12345) % 4294967296
+    x.wrapping_mul(1103515245).wrapping_add(12345)
 }
 
 // The byte that a number of the generator gives.
-pub fn byte_of(x: u64) -> u8
+pub fn byte_of(x: u32) -> u8
     ensures { result ≡ number_byte x }
 {
     (x / 65536 % 256) as u8
 }
 
 // Fills a slice with the generator's bytes from a seed on.
-pub fn generate(seed: u64, out: &mut [u8])
-    requires { seed < 4294967296 }
+pub fn generate(seed: u32, out: &mut [u8])
     ensures { out.new ≡ generated seed (length out.old) }
 {
     let mut x = seed;

@@ -9,12 +9,10 @@ use lib.Dec.{leb, eqb}
 use lib.ListN.{length}
 use Rattle.choice.proofs.Laws.{and_first, and_second}
 use Rattle.map.specs.Map.{map_length}
-use Rattle.state.specs.declared.State.{State}
 use Rattle.state.specs.State.{state_length, EachBelow, loaded, stored, well_formed}
 use Rattle.state.proofs.RoundTrip.{load_then_store, loaded_sized}
 use Rattle.state.proofs.WellFormed.{well_formed_parts}
 use Rattle.machine.specs.Step.{word_count}
-use Rattle.machine.specs.Parts.{whole}
 use Rattle.emulator.specs.declared.Last.{Last}
 use Rattle.emulator.specs.Run.{Refused, Ended}
 use Rattle.emulator.specs.Run.{pair_length, pair_count, record_length, Ran, ran_over, image_fits, state_fits, trace_fits, RunResult, yielded, ended, run_result}
@@ -22,22 +20,6 @@ use Rattle.emulator.specs.Parts.{last_state, ran_to, laid_over, Accepted}
 use Rattle.emulator.proofs.Going.{ran_stopped}
 
 -- ---- the steps
-
--- a state that is not stopped, taken apart and put together
-pub running : (s : State) → s.stop ≡ 0
-    → whole (record { pc = s.pc; flag = s.flag; pending = s.pending; depth = s.depth }) s.values s.latches s.returns ≡ s
-running s h =
-    ap (λ (n : ℕ).
-    record {
-      pc = s.pc;
-      flag = s.flag;
-      pending = s.pending;
-      values = s.values;
-      latches = s.latches;
-      depth = s.depth;
-      returns = s.returns;
-      stop = n;
-    }) (sym h)
 
 -- what a run that was let in yields, of its last state, count and trace
 let_in : Ran → RunResult
@@ -146,13 +128,12 @@ module _ (image map state recording trace : List ℕ) where
                 ∙ ap (ended trace) (sym (ran_stopped image map recording (loaded state) stopped)))
 
 -- what the steps need
-pub let_in_sound : (image map state recording trace : List ℕ) → image_fits image ≡ true → length map ≡ map_length
+pub let_in_sound : (image state recording trace : List ℕ) → image_fits image ≡ true
     → length state ≡ state_length → well_formed (loaded state) ≡ true → EachBelow 256 state → trace_fits recording trace ≡ true
-    → Accepted image map recording trace (loaded state)
-let_in_sound image map state recording trace words long full formed bytes room =
+    → Accepted image recording trace (loaded state)
+let_in_sound image state recording trace words full formed bytes room =
     record {
       words = image_words image words;
-      long = long;
       room = eqb-true (length trace) (pair_count recording * record_length) room;
       formed = well_formed_parts (loaded state) formed;
       sized = loaded_sized state full bytes;

@@ -9,11 +9,12 @@ use borrow.Author.Tests.{eq-eqb, ne_eqb}
 use lib.ListN.{length, get_or, take, drop, length-append, take-append-drop}
 use lib.Seq.{drop-cons, drop-drop, length-take-le}
 use Rattle.state.specs.declared.State.{State}
-use Rattle.state.specs.State.{EachBelow}
+use Rattle.state.specs.State.{two_bytes, EachBelow}
 use Rattle.machine.specs.declared.Sequencer.{Sequencer}
 use Rattle.machine.specs.declared.Effect.{Effect}
 use Rattle.machine.specs.Parts.{whole, outcome, event_kind, event_bytes, event_stop}
 use Rattle.machine.specs.Step.{word_count, Step, step_from, stepped}
+use Rattle.machine.proofs.Fetching.{fetch_numbers}
 use Rattle.machine.proofs.Keeps.{Sound, SoundOutcome, outcome_of, step_sound}
 use Rattle.emulator.specs.Run.{pair_length, pair_count, record_length, record_of, Ran, no_step, after, ran_over, written_over}
 use Rattle.emulator.specs.Parts.{half_length, address_bytes, last_state, ran_to, laid_over, Accepted}
@@ -170,7 +171,7 @@ module _ (image map recording start : List ℕ) (s₀ : State) where
 
 -- i steps on the way, and another pair
 module _ {image map recording start : List ℕ} {s₀ : State} {i : ℕ} {trace : List ℕ} (q : Sequencer) (v l r : List ℕ)
-    (door : Accepted image map recording start s₀) (g : Going image map recording start s₀ i (whole q v l r) trace) (h : i < pair_count recording) where
+    (door : Accepted image recording start s₀) (g : Going image map recording start s₀ i (whole q v l r) trace) (h : i < pair_count recording) where
   -- the place of the record
   abbrev at : ℕ
   at = record_length * i
@@ -222,6 +223,7 @@ module _ {image map recording start : List ℕ} {s₀ : State} {i : ℕ} {trace 
         recorded =
             part_written at located part (event_bytes e.event) event ∙ ap (λ (t : List ℕ). written at t (event_bytes e.event)) halfway
             ∙ written_before at half_length trace (event_bytes e.event) (address_bytes q) refl (omega (arith, fits))
+            ∙ ap (λ (a : ℕ). written at trace (event_bytes e.event ++ (two_bytes q.pc ++ two_bytes a))) (fetch_numbers q.pending q.pc)
 
         next : (n : ℕ) → n ≡ event_stop e.event
             → Going image map recording start s₀ (i + 1) (last_state (record { q = e.q; count = i + 1; stop = n }) v' l' r') back

@@ -9,15 +9,6 @@ use lib.ListN.{length, set, take, drop, length-append, length-take, length-drop,
 use lib.Seq.{take_all, take-take, take-append-le, drop-drop, take_at, drop_at, length-take-le}
 use Rattle.emulator.specs.Run.{written_over}
 
--- four bytes stored one after another
-pub four_stores : (part : List ℕ) (a b c d : ℕ) → 4 ≤ length part
-    → set (set (set (set part 0 a) 1 b) 2 c) 3 d ≡ written_over (a ∷ b ∷ c ∷ d ∷ []) part
-four_stores [] a b c d h = absurd (omega arith)
-four_stores (x ∷ []) a b c d h = absurd (omega arith)
-four_stores (x ∷ y ∷ []) a b c d h = absurd (omega arith)
-four_stores (x ∷ y ∷ z ∷ []) a b c d h = absurd (omega arith)
-four_stores (x ∷ y ∷ z ∷ w ∷ rest) a b c d h = refl
-
 -- a trace in which records were written from a place on, and its bytes up to their end
 abbrev pub written : ℕ → List ℕ → List ℕ → List ℕ
 written at trace records = take at trace ++ written_over records (drop at trace)

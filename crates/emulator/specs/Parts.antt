@@ -1,10 +1,9 @@
 -- The run as the code holds it: what a step's effect writes, what the steps of a run leave, and what they need.
 use Rattle.std.specs.Prelude.{List, ◌++◌, ◌≡◌, ℕ, ◌*◌, ◌≤◌, length}
-use Rattle.map.specs.Map.{map_length}
 use Rattle.state.specs.declared.State.{State}
 use Rattle.state.specs.State.{two_bytes, Formed, Sized}
 use Rattle.machine.specs.declared.Sequencer.{Sequencer}
-use Rattle.machine.specs.Parts.{fetch_of}
+use Rattle.machine.specs.Parts.{flag_of, pending_of, fetch_of}
 use Rattle.machine.specs.Step.{word_count}
 use Rattle.emulator.specs.declared.Last.{Last}
 use Rattle.emulator.specs.Run.{Ran, pair_count, record_length, written_over}
@@ -21,8 +20,8 @@ abbrev pub last_state : Last → List ℕ → List ℕ → List ℕ → State
 last_state last values latches returns =
     record {
       pc = last.q.pc;
-      flag = last.q.flag;
-      pending = last.q.pending;
+      flag = flag_of last.q.pending;
+      pending = pending_of last.q.pending;
       values = values;
       latches = latches;
       depth = last.q.depth;
@@ -39,9 +38,8 @@ abbrev pub laid_over : Ran → List ℕ → Ran
 laid_over r trace = record { state = r.state; count = r.count; trace = written_over r.trace trace }
 
 -- What the steps of a run need: what the questions at the door ask.
-pub record Accepted (image map recording trace : List ℕ) (s : State) : Type 0 where
+pub record Accepted (image recording trace : List ℕ) (s : State) : Type 0 where
   pub words : word_count image ≤ 8192
-  pub long : length map ≡ map_length
   pub room : length trace ≡ pair_count recording * record_length
   pub formed : Formed s
   pub sized : Sized s

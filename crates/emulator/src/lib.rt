@@ -15,7 +15,8 @@ pub const RECORD: usize = 8;
 
 const HALF: usize = 4;
 
-// What a run that is not refused answers: the count of trace records and the stop number or 0.
+// What a run that is not refused answers: the count of trace records and the stop number or 0, as byte 35 of the state has it: a run of
+// a state that is stopped gives that number.
 #[derive(Clone, Copy, Debug, PartialEq, Eq)]
 pub struct RunEnd {
     pub count: usize,
@@ -63,21 +64,15 @@ fn write_addresses(part: &mut [u8], q: Sequencer)
     requires { half_length ≤ length part.old }
     ensures { part.new ≡ written_over (address_bytes q) part.old }
 {
-    let pc = q.pc;
-    let at = processor::fetch_address(q);
-    write_half(
-        part,
-        (pc % 256) as u8,
-        (pc / 256 % 256) as u8,
-        (at % 256) as u8,
-        (at / 256 % 256) as u8,
-    );
+    let [pc_low, pc_high, ..] = q.pc.to_le_bytes();
+    let [at_low, at_high, ..] = processor::fetch_address(q).to_le_bytes();
+    write_half(part, pc_low, pc_high, at_low, at_high);
 }
 
 // Steps over the pairs of the recording until the machine stops.
 pub fn steps(
     image: &[u8],
-    map: &[u8],
+    map: &[u8; map::LENGTH],
     recording: &[u8],
     start: Sequencer,
     values: &mut [u8; 11],
@@ -85,7 +80,7 @@ pub fn steps(
     returns: &mut [u16; 8],
     trace: &mut [u8],
 ) -> Last
-    requires { Accepted image.now map.now recording.now trace.old (whole start values.old latches.old returns.old) }
+    requires { Accepted image.now recording.now trace.old (whole start values.old latches.old returns.old) }
     ensures { ran_to result values.new latches.new returns.new trace.new ≡ laid_over (ran_over image.now map.now recording.now (whole start values.old latches.old returns.old)) trace.old }
 {
     let mut q = start;

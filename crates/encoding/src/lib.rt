@@ -1,4 +1,4 @@
-// The instruction word encoded: 16 bits of a case with its fields.
+// The instruction word encoded: 16 bits of a case with its fields. An opcode is three of them.
 #![tactic(auto)]
 
 ghost use Rattle.std.specs.Prelude.{true, ◌≡◌, ◌<◌, Some};

@@ -9,6 +9,7 @@ ghost use Rattle.transfer.specs.Passes.{toward, start_table, sweep_bound, least_
 ghost use Rattle.marks.specs.Marks.{Agenda};
 ghost use Rattle.passing.specs.Passing.{Laid, Ready, Passed};
 
+use cells::known::Facts;
 use passing::{Reached, Tables};
 
 // Passes what reset knows on to the first cell.
@@ -25,12 +26,12 @@ fn start(image: &[u8], table: &mut [u8], marks: &mut [u64]) -> bool
     let reset = Reached {
         depth: 0,
         pc: 0,
-        facts: [0; 11],
+        facts: Facts::reset(),
     };
     passing::pass(&mut tables, reset)
 }
 
-// Sweeps until one changes nothing. Tells how many changed the table.
+// Sweeps until one changes nothing. Tells how many changed the table; no range says beforehand how many.
 fn sweep_all(image: &[u8], table: &mut [u8], marks: &mut [u64], hubs: &mut [u8]) -> usize
     requires { (0 < word_count image.now) × Laid image.now table.old × (table.old ≡ start_table image.now) × Agenda image.now table.old marks.old hubs.old }
     ensures { (table.new ≡ least_table image.now) × (result ≡ sweeps_of image.now) × (result ≤ sweep_bound image.now) }

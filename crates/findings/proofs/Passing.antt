@@ -89,11 +89,6 @@ module _ (words : ℕ) (test : ℕ → Bool) where
 -- ---- a word that an XEC executes
 
 module _ (image map table fs : List ℕ) (depth pc a : ℕ) where
-  pub executed_outside : word_count image ≤ a → Tells 21 (executed_findings image map table depth pc fs a)
-  executed_outside h =
-      tells_no 21 (ltb a (word_count image)) (ask 29 (not (is_defer (shape_at image a))) ∷ word_findings image map table depth pc fs (shape_at image a))
-      (le-ltb a (word_count image) h) (λ z. omega arith)
-
   executed_on : (r : ℕ) → a < word_count image → Tells r (ask 29 (not (is_defer (shape_at image a))) ∷ word_findings image map table depth pc fs (shape_at image a))
       → Tells r (executed_findings image map table depth pc fs a)
   executed_on r h t =
@@ -110,17 +105,6 @@ module _ (image map table fs : List ℕ) (depth pc a : ℕ) where
   executed_invalid h e =
       executed_as 22 invalid h e
       (tells_yes 29 22 true (ask 22 false ∷ []) refl (tells_no 22 false [] refl (λ z. omega arith)))
-
-  pub executed_defer : (s : Shape) (b : Bool) → a < word_count image → shape_at image a ≡ s → b ≡ is_defer s → b ≡ true → Tells 29 (executed_findings image map table depth pc fs a)
-  executed_defer s b h e d y =
-      executed_as 29 s h e
-      (tells_no 29 (not (is_defer s)) (word_findings image map table depth pc fs s) (ap not (sym d ∙ y)) (λ z. omega arith))
-
-  pub executed_word : (r : ℕ) (s : Shape) (b : Bool) → a < word_count image → shape_at image a ≡ s → b ≡ is_defer s → b ≡ false → Tells r (word_findings image map table depth pc fs s)
-      → Tells r (executed_findings image map table depth pc fs a)
-  executed_word r s b h e d n t =
-      executed_as r s h e
-      (tells_yes 29 r (not (is_defer s)) (word_findings image map table depth pc fs s) (ap not (sym d ∙ n)) t)
 
 -- ---- an XEC: the words at the addresses that it may give
 

@@ -8,6 +8,7 @@ use borrow.Author.Tests.{ne_eqb, eqb-true}
 use Rattle.choice.specs.Choice.{pick, Question, ask, first_no}
 use native.Mathlib.Omega.{arith}
 use Rattle.std.specs.Prelude.{Result, Ok, Err, IsErrAnd, ⊤}
+use Rattle.choice.proofs.Library.{handed_on}
 use Rattle.findings.specs.declared.Fault.{Fault}
 use Rattle.findings.specs.declared.Fault.TheVariants.{Stop, Unknown, Executed, Layout, Unheld}
 use Rattle.machine.proofs.Stops.{stop_nonzero}
@@ -48,12 +49,10 @@ fault_some Unheld z = absurd (omega arith)
 
 -- what `?` hands on tells what came
 pub hand_on : (r : Result ⊤ Fault) (fault : Fault) (qs : List Question) → IsErrAnd r (λ e. e ≡ fault) → Tells (fault_number fault) qs → Tells (finding_number r) qs
-hand_on (Ok fine) fault qs none t = absurd none
-hand_on (Err e) fault qs same t = subst⁻¹ (λ (x : Fault). Tells (fault_number x) qs) same t
+hand_on r fault qs e t = subst⁻¹ (λ x. Tells (finding_number x) qs) (handed_on r e refl) t
 
 pub handed : (r : Result ⊤ Fault) (fault : Fault) → IsErrAnd r (λ e. e ≡ fault) → finding_number r ≡ fault_number fault
-handed (Ok fine) fault none = absurd none
-handed (Err e) fault same = ap fault_number same
+handed r fault e = ap finding_number (handed_on r e refl)
 
 -- what has no fault has no number
 pub no_fault : (r : Result ⊤ Fault) → ((fault : Fault) → r ≡ Err fault → ⊥) → finding_number r ≡ 0

@@ -1,5 +1,5 @@
-// A decoded word in the form that everything above decoding goes over: one case for each shape. This is
-// the only place that turns kinds of words into something else than their fields.
+// A decoded word in the form that the machine and the facts go over: one case for each shape, and one for a word that is not listed,
+// which has a shape too.
 #![tactic(auto)]
 
 ghost use Rattle.std.specs.Prelude.{◌≡◌};
@@ -47,30 +47,14 @@ fn transmission(d: usize, l: usize, i: u8) -> Form
     })
 }
 
-// XEC or NZT of a register.
-fn of_register(s: usize, i: u8) -> Paged
-    ensures { result ≡ record { s = s; l = 0; page = Page.Long; i = i } }
+// XEC or NZT.
+fn paged(s: usize, l: usize, page: Page, i: u8) -> Paged
+    ensures { result ≡ record { s = s; l = l; page = page; i = i } }
 {
-    Paged {
-        s,
-        l: 0,
-        page: Page::Long,
-        i,
-    }
+    Paged { s, l, page, i }
 }
 
-// XEC or NZT of a bank.
-fn of_bank(s: usize, l: usize, i: u8) -> Paged
-    ensures { result ≡ record { s = s; l = l; page = Page.Short; i = i } }
-{
-    Paged {
-        s,
-        l,
-        page: Page::Short,
-        i,
-    }
-}
-
+// The form of a word. A constant is a byte (`InRange`), so that `as` keeps it whole.
 #[tactic(auto, unfolding(machine::specs::Shape::shape_of))]
 pub fn form_of(word: Word) -> Form
     requires { InRange word }
@@ -81,10 +65,10 @@ pub fn form_of(word: Word) -> Form
         Word::Add { s, rl, d } => operation(Operation::Add, s, rl, d),
         Word::And { s, rl, d } => operation(Operation::And, s, rl, d),
         Word::Xor { s, rl, d } => operation(Operation::Xor, s, rl, d),
-        Word::XecRegister { s, i } => Form::Defer(of_register(s, i as u8)),
-        Word::XecBank { s, l, i } => Form::Defer(of_bank(s, l, i as u8)),
-        Word::NztRegister { s, i } => Form::Branch(of_register(s, i as u8)),
-        Word::NztBank { s, l, i } => Form::Branch(of_bank(s, l, i as u8)),
+        Word::XecRegister { s, i } => Form::Defer(paged(s, 0, Page::Long, i as u8)),
+        Word::XecBank { s, l, i } => Form::Defer(paged(s, l, Page::Short, i as u8)),
+        Word::NztRegister { s, i } => Form::Branch(paged(s, 0, Page::Long, i as u8)),
+        Word::NztBank { s, l, i } => Form::Branch(paged(s, l, Page::Short, i as u8)),
         Word::Call { i } => Form::Call { i: i as u8 },
         Word::Ret { i } => Form::Return,
         Word::XmitRegister { d, i } => transmission(d, 0, i as u8),

@@ -4,24 +4,35 @@
 ghost use Rattle.std.specs.Prelude.{◌≡◌, ◌≤◌, ◌<◌, length, take, drop};
 ghost use Rattle.map.specs.Map.{map_length};
 ghost use Rattle.choice.specs.Choice.{asked};
+ghost use Rattle.refusal.specs.Refusal.{refusal_number};
 ghost use Rattle.text.specs.Text.{door_line};
 ghost use Rattle.text.specs.Parts.{Written};
 ghost use Rattle.report.specs.Report.{words_line};
 ghost use Rattle.line.specs.Line.{input_questions, line_of};
+
+use refusal::Refusal;
+
+// A refusal at the door.
+fn put_refusal(out: &mut [u8], refusal: Refusal) -> usize
+    requires { 11 ≤ length out.old }
+    ensures { Written out.old 0 (door_line (refusal_number refusal)) out.new result × (result ≤ 11) }
+{
+    text::put_door(out, usize::from(refusal.number()))
+}
 
 // The line without its end.
 fn put_words(out: &mut [u8], input: &[u8]) -> usize
     requires { 64 ≤ length out.old }
     ensures { Written out.old 0 (asked (input_questions input.now) (words_line (take map_length input.now) (drop map_length input.now)) door_line) out.new result × (result < 64) }
 {
-    let Some((map, image)) = input.split_at_checked(map::LENGTH) else {
-        return text::put_door(out, 12);
+    let Some((map, image)) = input.split_first_chunk() else {
+        return put_refusal(out, Refusal::Map);
     };
     if 928 < input.len() {
-        return text::put_door(out, 18);
+        return put_refusal(out, Refusal::Input);
     }
     if !emulator::image_fits(image) {
-        return text::put_door(out, 11);
+        return put_refusal(out, Refusal::Image);
     }
     report::put_answer(out, map, image)
 }

@@ -11,6 +11,7 @@ use lib.ListN.{length, get_or, take, drop, length-append}
 use lib.Seq.{drop-drop, length-take-le, take_all, take_at, drop_at}
 use Rattle.std.proofs.lemmas.List.{get_or-take, get_or-drop}
 use Rattle.std.specs.Simd.{first_chunks}
+use Rattle.choice.proofs.Library.{chunk_at}
 use Rattle.machine.specs.Step.{word_count, word_at}
 use Rattle.emulator.specs.Run.{image_fits}
 use Rattle.emulator.proofs.Door.{image_words}
@@ -48,17 +49,9 @@ module _ (image : List ℕ) where
 
 -- ---- the words of an image, two bytes each
 
-chunk_at : (n m k : ℕ) (xs : List ℕ) (d : List ℕ) → k < m → get_or (first_chunks n m xs) k d ≡ take n (drop (n * k) xs)
-chunk_at n zero k xs d below = absurd (omega arith)
-chunk_at n (suc m) zero xs d below = ap (λ (i : ℕ). take n (drop i xs)) {x = 0} {y = n * 0} (omega arith)
-chunk_at n (suc m) (suc k) xs d below =
-    chunk_at n m k (drop n xs) d (omega arith)
-    ∙ ap (take n) (drop-drop (n * k) n xs)
-    ∙ ap (λ (i : ℕ). take n (drop i xs)) {x = n + n * k} {y = n * suc k} (omega (arith, mul-suc n k))
-
 byte_of_chunk : (m k i : ℕ) (xs : List ℕ) (d : List ℕ) → k < m → i < 2 → get_or (get_or (first_chunks 2 m xs) k d) i 0 ≡ get_or xs (2 * k + i) 0
 byte_of_chunk m k i xs d below small =
-    ap (λ (l : List ℕ). get_or l i 0) (chunk_at 2 m k xs d below) ∙ get_or-take 2 (drop (2 * k) xs) i 0 small ∙ get_or-drop (2 * k) xs i 0
+    ap (λ (l : List ℕ). get_or l i 0) (chunk_at 2 m xs k d below) ∙ get_or-take 2 (drop (2 * k) xs) i 0 small ∙ get_or-drop (2 * k) xs i 0
 
 pub word_of_chunk : (image : List ℕ) {words : List (List ℕ)} (a : ℕ) (d : List ℕ) → words ≡ first_chunks 2 (word_count image) image → a < word_count image
     → get_or (get_or words a d) 0 0 * 256 + get_or (get_or words a d) 1 0 ≡ word_at image a

@@ -43,7 +43,7 @@ pub fn print(input: &[u8], out: &mut [u8]) -> usize
     ensures { (take result out.new ≡ printed_of input.now) × (result ≤ length out.new) × (drop result out.new ≡ drop result out.old) }
 {
     if !emulator::image_fits(input) {
-        let behind = text::put_door(out, 11);
+        let behind = text::put_door(out, usize::from(Refusal::Image.number()));
         return text::put(out, behind, b"\n");
     }
     let size = LINE * (input.len() / 2);

@@ -1,8 +1,7 @@
 -- The machine's parts as the code holds them, put together to a state, and what the code's parts of a step yield.
-use Rattle.std.specs.Prelude.{List, [], ◌∷◌, ◌≡◌, ℕ, ◌+◌, ◌<◌, ◌≤◌, leb, eqb, length, get_or}
+use Rattle.std.specs.Prelude.{List, [], ◌∷◌, ◌≡◌, ℕ, ◌+◌, ◌<◌, ◌≤◌, leb, eqb, get_or, Option, Some, None, unwrap_or}
 use Rattle.choice.specs.Choice.{pick, ask, asked}
 use Rattle.field.specs.Field.{low_bits}
-use Rattle.map.specs.Map.{map_length}
 use Rattle.state.specs.declared.State.{State}
 use Rattle.state.specs.State.{stack_places}
 use Rattle.machine.specs.declared.Sequencer.{Sequencer}
@@ -19,13 +18,21 @@ use Rattle.machine.specs.declared.act.Delivery.{Delivery}
 use Rattle.machine.specs.Shape.{Source, constant, Target, Shape, act, source_of, target_of, places_of, kept_of}
 use Rattle.machine.specs.Step.{Outcome, result_of, act_state, target_event, may_write, may_choose, came_to_stop}
 
+-- what is pending, as the two numbers of a state: the flag, and the address, which is 0 without it
+abbrev pub flag_of : Option ℕ → ℕ
+flag_of None = 0
+flag_of (Some a) = 1
+
+abbrev pub pending_of : Option ℕ → ℕ
+pending_of pending = unwrap_or pending 0
+
 -- the state of a machine that is not stopped, from its sequencer, values, latches and call stack
 abbrev pub whole : Sequencer → List ℕ → List ℕ → List ℕ → State
 whole q values latches returns =
     record {
       pc = q.pc;
-      flag = q.flag;
-      pending = q.pending;
+      flag = flag_of q.pending;
+      pending = pending_of q.pending;
       values = values;
       latches = latches;
       depth = q.depth;
@@ -33,9 +40,9 @@ whole q values latches returns =
       stop = 0;
     }
 
--- where the next word is fetched
+-- where the next word is fetched: at the pending address, or at PC
 abbrev pub fetch_of : Sequencer → ℕ
-fetch_of q = pick (eqb q.flag 1) q.pending q.pc
+fetch_of q = unwrap_or q.pending q.pc
 
 -- the number of a stop: the step question that got the first no
 abbrev pub stop_number : Stop → ℕ
@@ -82,8 +89,8 @@ outcome e values latches returns =
       state =
           record {
             pc = e.q.pc;
-            flag = e.q.flag;
-            pending = e.q.pending;
+            flag = flag_of e.q.pending;
+            pending = pending_of e.q.pending;
             values = values;
             latches = latches;
             depth = e.q.depth;
@@ -95,15 +102,15 @@ outcome e values latches returns =
 
 -- an act that has gone on to PC + 1
 abbrev pub act_effect : Sequencer → Event → Effect
-act_effect q event = record { q = record { pc = q.pc + 1; flag = 0; pending = 0; depth = q.depth }; event = event }
+act_effect q event = record { q = record { pc = q.pc + 1; pending = None; depth = q.depth }; event = event }
 
 -- a word that has directed PC
 abbrev pub go_effect : ℕ → ℕ → Effect
-go_effect pc depth = record { q = record { pc = pc; flag = 0; pending = 0; depth = depth }; event = Quiet }
+go_effect pc depth = record { q = record { pc = pc; pending = None; depth = depth }; event = Quiet }
 
 -- an XEC
 abbrev pub defer_effect : Sequencer → ℕ → Effect
-defer_effect q pending = record { q = record { pc = q.pc; flag = 1; pending = pending; depth = q.depth }; event = Quiet }
+defer_effect q a = record { q = record { pc = q.pc; pending = Some a; depth = q.depth }; event = Quiet }
 
 -- a page has 256 addresses or 32
 abbrev pub IsPage : ℕ → Type 0
@@ -152,9 +159,7 @@ taken_source a = taken_argument a.from a.l a.d
 abbrev pub shape_of_delivery : Delivery → Shape
 shape_of_delivery a = act (delivery_source a) (operation_number a.op) (target_of a.d a.l)
 
--- What a word needs to be executed: a map of its length, a PC inside an image of at most 8,192 words, a depth
--- within the stack.
-pub record Ready (map : List ℕ) (q : Sequencer) : Type 0 where
-  pub long : length map ≡ map_length
+-- What a word needs to be executed: a PC inside an image of at most 8,192 words, a depth within the stack.
+pub record Ready (q : Sequencer) : Type 0 where
   pub near : q.pc < 8192
   pub shallow : q.depth ≤ stack_places

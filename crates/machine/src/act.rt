@@ -1,6 +1,5 @@
 // What the words that deliver read of their source, and what they make of it: MOVE, ADD, AND, XOR, XMIT.
-ghost use Rattle.std.specs.Prelude.{◌≡◌, ℕ, ◌<◌, length};
-ghost use Rattle.map.specs.Map.{map_length};
+ghost use Rattle.std.specs.Prelude.{◌≡◌, ℕ, ◌<◌};
 ghost use Rattle.machine.specs.Shape.{slot_of, source_of, places_of};
 ghost use Rattle.machine.specs.Step.{value_of, result_of, may_read};
 ghost use Rattle.machine.specs.Parts.{operation_number, masked_into};
@@ -45,15 +44,14 @@ pub fn slot_of(r: usize) -> usize
 }
 
 // Where the source is a bank: is the bank's address readable?
-pub fn may_read(map: &[u8], values: &[u8; 11], s: usize) -> bool
-    requires { length map.now ≡ map_length }
+pub fn may_read(map: &[u8; map::LENGTH], values: &[u8; 11], s: usize) -> bool
     ensures { (places kept l : ℕ) → result ≡ may_read map.now (source_of s places kept l) values.now }
 {
     if s < word::FIRST_BANK {
         return true;
     }
     let bank = s / 8 % 2;
-    map::readable(map, bank, usize::from(values[state::ADDRESS + bank]))
+    map::readable(map, bank, values[state::ADDRESS + bank])
 }
 
 // The source: a register rotated by places, or a bank's field of length l.

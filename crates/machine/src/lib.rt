@@ -1,5 +1,5 @@
 // The machine: what a word leaves, and what it reads. The values, the latches and the call stack are lent, the
-// rest of the state is a struct of numbers, so that a loop over steps keeps all of it in place.
+// rest of the state is a small struct, so that a loop over steps keeps all of it in place.
 #![tactic(auto)]
 
 pub mod act;
@@ -8,12 +8,11 @@ ghost use Rattle.std.specs.Prelude.{◌≡◌, ℕ, List};
 ghost use Rattle.machine.specs.Step.{came_to_stop};
 ghost use Rattle.machine.specs.Parts.{whole, outcome, stop_number};
 
-// PC, pending flag and address, depth.
+// PC, the address that an XEC chose if one is pending, depth.
 #[derive(Clone, Copy)]
 pub struct Sequencer {
     pub pc: usize,
-    pub flag: usize,
-    pub pending: usize,
+    pub pending: Option<usize>,
     pub depth: usize,
 }
 
@@ -46,7 +45,8 @@ impl Stop {
     }
 }
 
-// What the trace tells of a word: nothing, a bank's address chosen, data written at it, or a stop.
+// What the trace tells of a word: nothing, a bank's address chosen, data written at it, or a stop. A bank is a number, 0 or 1, as a bit
+// of the source or target gives it: it picks latch, address and set.
 #[derive(Clone, Copy)]
 pub enum Event {
     Quiet,

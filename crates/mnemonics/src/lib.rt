@@ -32,7 +32,8 @@ fn is_nzt_of(w: usize, s: usize) -> bool
     w / 8192 == 5 && w / 256 % 32 == s
 }
 
-// The operands of a word, none if it is invalid.
+// The operands of a word, none if it is invalid. By its bits, as `layout_of` tells them, and not by its case: of the fourteen cases
+// of `Word` seven would say one layout. `columns` asks once whether the word is valid, for both.
 #[tactic(auto, unfolding(crate::specs::Layout::layout_of))]
 pub fn operands(w: usize, valid: bool) -> [Option<Field>; 3]
     requires { valid ≡ is_valid w }

@@ -5,6 +5,7 @@ ghost use Rattle.std.specs.Prelude.{◌≡◌, ◌<◌};
 ghost use Rattle.word.specs.Word.{InRange};
 ghost use Rattle.numbers.specs.Words.{fields_number, read_number, xec_from, nzt_from, xmit_from, word_from};
 
+use refusal::Refusal;
 use word::Word;
 
 // The opcode and three fields, each at its place of a number.
@@ -34,11 +35,11 @@ pub fn read_number(word: Word) -> u64
         Word::XmitRegister { d, i } => fields(6, d, i, 0),
         Word::XmitBank { d, l, i } => fields(6, d, l, i),
         Word::Jmp { a } => fields(7, a, 0, 0),
-        Word::Invalid => 22,
+        Word::Invalid => u64::from(Refusal::Unlisted.number()),
     }
 }
 
-// XEC, NZT and XMIT: of a bank all three fields are given, of a register the third must be 0.
+// XEC, NZT and XMIT: of a bank all three fields are given, of a register the third must be 0. Each makes cases of its own.
 #[tactic(auto, unfolding(crate::specs::Words::xec_from))]
 fn xec_from(s: usize, b: usize, c: usize) -> Word
     ensures { result ≡ xec_from s b c }

@@ -1,12 +1,11 @@
 -- One cell handed on: asked of a table, or joined into one and noted where that changes it.
-use mathlib.Core.Path.{◌≡◌, refl, sym, ◌∙◌, ap, subst, subst⁻¹}
-use mathlib.Core.Bool.{Bool, true, false, not, true≢false, false≢true}
+use mathlib.Core.Path.{◌≡◌, sym, ◌∙◌, ap, subst⁻¹}
+use mathlib.Core.Bool.{Bool, true, false, not}
 use mathlib.Core.List.{List}
-use Prim.Native.Nat.{ℕ, ◌+◌, ◌*◌, ◌≤◌, ◌<◌}
-use native.Mathlib.Omega.{arith}
+use Prim.Native.Nat.{ℕ, ◌*◌, ◌≤◌, ◌<◌}
 use lib.Arith.{digits_lt}
 use lib.ListN.{length, get_or}
-use borrow.Author.Tests.{lt-ltb, le-ltb, not-true, not-false}
+use borrow.Author.Tests.{lt-ltb, not-true, not-false}
 use Rattle.choice.specs.Choice.{pick}
 use Rattle.machine.specs.Step.{word_count}
 use Rattle.flow.specs.Flow.{Pass}
@@ -14,13 +13,13 @@ use Rattle.flow.proofs.Lawful.{Fits}
 use Rattle.flow.proofs.Grows.{join_at-good, join_at-other, join_at-grows}
 use Rattle.flow.proofs.Still.{join_at-still}
 use Rattle.facts.specs.declared.Cell.{Cell}
-use Rattle.facts.specs.Record.{record_size, depths, cell_at, put_cell, join_cell, holds_cell, FineCell, Layout}
+use Rattle.facts.specs.Record.{depths, cell_at, put_cell, join_cell, holds_cell, FineCell, Layout}
 use Rattle.transfer.specs.Passes.{point_at, is_call_site, table_space}
 use Rattle.transfer.proofs.TableLaws.{table_laws, site_wider}
 use Rattle.callers.specs.Callers.{Held}
 use Rattle.marks.specs.Marks.{Sited, Marked, Noted}
 use Rattle.marks.proofs.Moving.{noted_none, marked_noted}
-use Rattle.passing.specs.Passing.{Laid, asks, seen, Ready}
+use Rattle.passing.specs.Passing.{Laid, seen}
 
 -- a table with the layout is one that call sites can be asked of
 pub held : (image t : List ℕ) → word_count image ≤ 8192 → Layout (depths * word_count image) t → Held image t
@@ -72,32 +71,3 @@ module _ (image : List ℕ) (bytes : (k : ℕ) → get_or image k 0 < 256) (t m 
 module _ (asked t : List ℕ) where
   pub sees_asked : 0 < length asked → seen asked t ≡ asked
   sees_asked h = ap (λ (b : Bool). pick b asked t) (lt-ltb 0 (length asked) h)
-
-  pub sees_table : length asked ≤ 0 → seen asked t ≡ t
-  sees_table h = ap (λ (b : Bool). pick b asked t) (le-ltb 0 (length asked) h)
-
-module _ (image asked t m : List ℕ) (depth a : ℕ) (g : Ready image asked t m) where
-  pub asked_room : 0 < length asked → depth < depths → a < word_count image → record_size * point_at (word_count image) depth a + record_size ≤ length asked
-  asked_room h l b =
-      let long : length asked ≡ record_size * (depths * word_count image) = sym (ap length (sees_asked asked t h)) ∙ g.layout.long in
-      let inside : point_at (word_count image) depth a < depths * word_count image = digits_lt l b in
-      omega arith
-
-  pub table_laid : length asked ≤ 0 → Laid image t
-  table_laid h = record { words = g.words; layout = subst (Layout (depths * word_count image)) (sees_table asked t h) g.layout }
-
-  pub table_sited : length asked ≤ 0 → Sited image t m
-  table_sited h = g.sited (le-ltb 0 (length asked) h)
-
-  module _ (d : Cell) where
-    pub handed_asked : 0 < length asked → {c : Cell} → c ≡ cell_at asked (point_at (word_count image) depth a) → {r : Bool} → r ≡ holds_cell c d
-        → (t ≡ pick (asks asked) t (put_cell t (point_at (word_count image) depth a) (join_cell (cell_at t (point_at (word_count image) depth a)) d))) × (not r ≡ not (holds_cell (cell_at (seen asked t) (point_at (word_count image) depth a)) d))
-        × (asks asked ≡ false → Noted image t m t m) × (asks asked ≡ true → m ≡ m)
-    handed_asked h e told =
-        rw (lt-ltb 0 (length asked) h) (refl, ap not (told ∙ ap (λ (c : Cell). holds_cell c d) e), (λ none. absurd (true≢false none)), λ some. refl)
-
-    pub handed_joined : {n : List ℕ} → length asked ≤ 0 → {u : List ℕ} {r : Bool}
-        → (u ≡ put_cell t (point_at (word_count image) depth a) (join_cell (cell_at t (point_at (word_count image) depth a)) d)) × (r ≡ not (holds_cell (cell_at t (point_at (word_count image) depth a)) d)) × Noted image t m u n
-        → (u ≡ pick (asks asked) t (put_cell t (point_at (word_count image) depth a) (join_cell (cell_at t (point_at (word_count image) depth a)) d))) × (r ≡ not (holds_cell (cell_at (seen asked t) (point_at (word_count image) depth a)) d))
-        × (asks asked ≡ false → Noted image t m u n) × (asks asked ≡ true → n ≡ m)
-    handed_joined h done = rw (le-ltb 0 (length asked) h) (done.0, done.1, (λ none. done.2), λ some. absurd (false≢true some))

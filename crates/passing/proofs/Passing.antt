@@ -2,43 +2,26 @@
 use mathlib.Core.Path.{◌≡◌, refl, sym, ◌∙◌, ap, ap₂, subst, subst⁻¹}
 use mathlib.Core.Bool.{Bool, true, false, not, ◌&&◌, ◌||◌}
 use mathlib.Core.List.{List, [], ◌∷◌, ◌++◌}
-use Prim.Native.Nat.{ℕ, ◌*◌, ◌≤◌, ◌<◌}
+use Prim.Native.Nat.{ℕ, ◌+◌, ◌*◌, ◌≤◌, ◌<◌}
 use native.Mathlib.Omega.{arith}
 use native.Mathlib.Nat.{mul-le-mul_right}
 use lib.Arith.{digits_lt}
 use lib.Dec.{ltb}
-use lib.ListN.{length, get_or}
-use borrow.Author.Tests.{lt-ltb, le-ltb, ltb-true, ltb-false}
+use lib.ListN.{length, take, drop, length-append, length-drop}
+use lib.Seq.{length-take-le}
+use borrow.Author.Tests.{lt-ltb, le-ltb, ltb-true}
 use Rattle.choice.specs.Choice.{pick}
-use Rattle.machine.specs.Shape.{Target, bank, constant}
 use Rattle.machine.specs.Step.{word_count}
 use Rattle.flow.specs.Flow.{Pass, join_all, changes_all, all_covered}
 use Rattle.flow.proofs.Rest.{join_all-nil, join_all-one, join_all-append, changes_all-nil, changes_all-one, changes_all-append, all_covered-nil, all_covered-one, all_covered-append}
 use Rattle.facts.specs.declared.Cell.{Cell}
-use Rattle.facts.specs.Facts.{unknown, result_fact, with_carry_fact, put_fact}
-use Rattle.facts.specs.Record.{depths, cell_of, cell_at, put_cell, join_cell, holds_cell, FineCell, Layout}
+use Rattle.facts.specs.Record.{record_size, record_of, read_cell, put_record, depths, cell_of, cell_at, put_cell, join_cell, holds_cell, FineCell, Layout}
 use Rattle.facts.proofs.Cells.{join_fine}
-use Rattle.facts.proofs.Records.{other_cell, put_layout}
-use Rattle.facts.proofs.Makes.{after_fine}
-use Rattle.cells.specs.Cells.{Bounded}
+use Rattle.facts.proofs.Records.{other_cell, put_layout, put_there}
 use Rattle.transfer.specs.Passes.{point_at, toward, table_space}
 use Rattle.marks.specs.Marks.{Noted}
 use Rattle.marks.proofs.Moving.{noted_none, noted_then}
 use Rattle.passing.specs.Passing.{asks, seen, Ready, Passed}
-
--- facts after an act are again a value or unknown
-pub after_bounded : (facts : List ℕ) (op x : ℕ) (target : Target) → length facts ≡ 11 → Bounded facts → x ≤ unknown
-    → Bounded (put_fact target (result_fact op (get_or facts 0 unknown) x) (with_carry_fact op (get_or facts 0 unknown) x facts))
-after_bounded facts op x target l b h = go (ltb x 256) refl
-  where
-    Made : ℕ → Type 0
-    Made y = Bounded (put_fact target (result_fact op (get_or facts 0 unknown) y) (with_carry_fact op (get_or facts 0 unknown) y facts))
-
-    go : (c : Bool) → ltb x 256 ≡ c → Made x
-    go true w = (after_fine (constant x) op target facts (ltb-true x 256 w) (record { long = l; bounded = b })).bounded
-    go false w =
-        let e : x ≡ 256 = let q = ltb-false x 256 w in omega arith in
-        subst Made (sym e) (after_fine (bank 0 0 0) op target facts (omega arith, omega arith, omega arith) (record { long = l; bounded = b })).bounded
 
 -- what passes leave is ready for more
 pub still_ready : {image asked : List ℕ} {d : ℕ} {t u m n : List ℕ} {ps : List (Pass Cell)} {r : Bool} → Ready image asked t m
@@ -113,30 +96,13 @@ module _ {image asked : List ℕ} where
         spared = p.spared;
       }
 
-  -- the lent table is as long as it was
-  pub passed_size : {d : ℕ} {t u m n : List ℕ} {ps : List (Pass Cell)} {r : Bool} → Ready image asked t m
-      → Passed image asked d t m ps u n r → length u ≡ length t
-  passed_size {t = t} {u = u} {ps = ps} g p = go (asks asked) g.layout p.laid p.table
-    where
-      go : (b : Bool) → Layout (depths * word_count image) (pick b asked t) → Layout (depths * word_count image) (pick b asked u)
-          → u ≡ pick b t (join_all (table_space image) t ps) → length u ≡ length t
-      go true g h e = ap length e
-      go false g h e = h.long ∙ sym g.long
-
-  -- and so are the marks
-  pub passed_marks : {d : ℕ} {t u m n : List ℕ} {ps : List (Pass Cell)} {r : Bool} → Ready image asked t m → Passed image asked d t m ps u n r → length n ≡ length m
-  passed_marks {m = m} {n = n} g p = go (asks asked) refl
-    where
-      go : (b : Bool) → asks asked ≡ b → length n ≡ length m
-      go true e = ap length (p.spared e)
-      go false e = (p.noted e).moves.sited.long ∙ sym (g.sited e).long
-
 -- ---- one pass
-module _ (image asked t m : List ℕ) (d a : ℕ) (facts : List ℕ) (g : Ready image asked t m) (s : d < depths) (f : FineCell (cell_of true facts)) where
-  -- where the address is outside the image
-  pub passed_nowhere : word_count image ≤ a → Passed image asked d t m (toward (word_count image) d a facts) t m false
-  passed_nowhere h = rw (le-ltb a (word_count image) h) (passed_none g)
+-- where the address is outside the image
+pub passed_nowhere : {image asked t m : List ℕ} {d a : ℕ} (facts : List ℕ) → Ready image asked t m → word_count image ≤ a
+    → Passed image asked d t m (toward (word_count image) d a facts) t m false
+passed_nowhere {image} {a = a} facts g h = rw (le-ltb a (word_count image) h) (passed_none g)
 
+module _ (image asked t m : List ℕ) (d a : ℕ) (facts : List ℕ) (g : Ready image asked t m) (s : d < depths) (f : FineCell (cell_of true facts)) where
   module _ (h : a < word_count image) where
     pub point_inside : point_at (word_count image) d a < depths * word_count image
     point_inside = digits_lt s h
@@ -190,28 +156,52 @@ module _ (image asked t m : List ℕ) (d a : ℕ) (facts : List ℕ) (g : Ready 
         one_flag true c = c ∙ ap not (sym (all_covered-one (table_space image) asked pass))
         one_flag false c = c ∙ sym (changes_all-one (table_space image) t pass)
 
-  -- a pass leaves every cell but its target
-  pub toward_keeps : {u n : List ℕ} {r : Bool} → Passed image asked d t m (toward (word_count image) d a facts) u n r
-      → (i : ℕ) → i < depths * word_count image → (i ≡ point_at (word_count image) d a → ⊥) → cell_at (seen asked u) i ≡ cell_at (seen asked t) i
-  toward_keeps {u = u} p i l ne = go (ltb a (word_count image)) refl p.table
-    where
-      none : (b : Bool) → u ≡ pick b t (join_all (table_space image) t []) → cell_at (pick b asked u) i ≡ cell_at (pick b asked t) i
-      none true e = refl
-      none false e = ap (λ (x : List ℕ). cell_at x i) (e ∙ join_all-nil (table_space image) t)
+-- a table in which a cell is put, and which keeps its length, keeps the other cells
+put_other : (cells : ℕ) (t : List ℕ) (i : ℕ) (c : Cell) → length t ≡ record_size * cells → length (put_cell t i c) ≡ record_size * cells → i < cells
+    → (j : ℕ) → j < cells → (j ≡ i → ⊥) → cell_at (put_cell t i c) j ≡ cell_at t j
+unfolding cell_at put_record
+put_other cells t i c l k h j hj ne = ap read_cell (put_there t cells i (record_of c 0) l h long j hj ne)
+  where
+    rest : List ℕ
+    rest = drop (record_size * i + record_size) t
 
-      one : (h : a < word_count image) (b : Bool) → u ≡ pick b t (join_all (table_space image) t (pass h ∷ [])) → u ≡ pick b t (put_cell t (point_at (word_count image) d a) (joined h))
-      one h true e = e
-      one h false e = e ∙ join_all-one (table_space image) t (pass h)
+    long : length (record_of c 0) ≡ record_size
+    long =
+        omega (
+          arith,
+          l,
+          k,
+          length-append (take (record_size * i) t) (record_of c 0 ++ rest),
+          length-take-le (record_size * i) t (omega (arith, l)),
+          length-append (record_of c 0) rest,
+          length-drop (record_size * i + record_size) t,
+        )
 
-      go : (b : Bool) → ltb a (word_count image) ≡ b
-          → u ≡ pick (asks asked) t (join_all (table_space image) t (pick b (record { target = point_at (word_count image) d a; cell = cell_of true facts } ∷ []) []))
-          → cell_at (seen asked u) i ≡ cell_at (seen asked t) i
-      go true w e = let h = ltb-true a (word_count image) w in (after h (asks asked) g.layout (one h (asks asked) e)).others i l ne
-      go false w e = none (asks asked) e
+-- a pass leaves every cell but its target
+pub toward_keeps : (image asked t m : List ℕ) (d a : ℕ) (facts : List ℕ) → Ready image asked t m → d < depths → {u n : List ℕ} {r : Bool}
+    → Passed image asked d t m (toward (word_count image) d a facts) u n r
+    → (i : ℕ) → i < depths * word_count image → (i ≡ point_at (word_count image) d a → ⊥) → cell_at (seen asked u) i ≡ cell_at (seen asked t) i
+toward_keeps image asked t m d a facts g s {u = u} p i l ne = go (ltb a (word_count image)) refl p.table
+  where
+    pass : Pass Cell
+    pass = record { target = point_at (word_count image) d a; cell = cell_of true facts }
 
--- the first place of a depth is a small number
-pub small_depth : (image : List ℕ) (d : ℕ) → word_count image ≤ 8192 → d < 9 → d * word_count image ≤ 65536
-small_depth image d w h = let m = mul-le-mul_right {m = d} {n = 8} (word_count image) (omega arith) in omega arith
+    none : (b : Bool) → u ≡ pick b t (join_all (table_space image) t []) → cell_at (pick b asked u) i ≡ cell_at (pick b asked t) i
+    none true e = refl
+    none false e = ap (λ (x : List ℕ). cell_at x i) (e ∙ join_all-nil (table_space image) t)
+
+    one : a < word_count image → (b : Bool) → Layout (depths * word_count image) (pick b asked t) → Layout (depths * word_count image) (pick b asked u)
+        → u ≡ pick b t (join_all (table_space image) t (pass ∷ [])) → cell_at (pick b asked u) i ≡ cell_at (pick b asked t) i
+    one h true k v e = refl
+    one h false k v e =
+        let put = e ∙ join_all-one (table_space image) t pass in
+        ap (λ (x : List ℕ). cell_at x i) put
+        ∙ put_other (depths * word_count image) t (point_at (word_count image) d a) (join_cell (cell_at t (point_at (word_count image) d a)) (cell_of true facts)) k.long (sym (ap length put) ∙ v.long) (digits_lt s h) i l ne
+
+    go : (b : Bool) → ltb a (word_count image) ≡ b → u ≡ pick (asks asked) t (join_all (table_space image) t (pick b (pass ∷ []) []))
+        → cell_at (seen asked u) i ≡ cell_at (seen asked t) i
+    go true w e = one (ltb-true a (word_count image) w) (asks asked) g.layout p.laid e
+    go false w e = none (asks asked) e
 
 -- ---- passes by a test
 pub passed_if : {image asked : List ℕ} {d : ℕ} {t u m n : List ℕ} (b : Bool) (ps : List (Pass Cell)) {r : Bool} → b ≡ true → Passed image asked d t m ps u n r

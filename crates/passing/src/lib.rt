@@ -1,6 +1,6 @@
 // Facts handed on to a cell, and what one word passes on, for two uses: they are joined into a table that is being filled,
 // or a table that came along is asked whether it holds them. The two tables are lent side by side, and the walk goes over
-// the first unless that is empty.
+// the first unless that is empty. Both are lists for `Ready`, `Passed` and `seen`, so that neither is an Option.
 #![tactic(auto)]
 
 ghost use Rattle.std.specs.Prelude.{◌≡◌, true, false, not, [], ◌<◌};
@@ -11,13 +11,13 @@ ghost use Rattle.machine.specs.Parts.{shape_of_delivery};
 ghost use Rattle.control.specs.Pages.{branch_shape};
 ghost use Rattle.forms.specs.Forms.{shape_is, FormFits};
 ghost use Rattle.facts.specs.Record.{FineCell, holds_cell, join_cell, cell_at, put_cell};
-ghost use Rattle.cells.specs.Cells.{Bounded};
 ghost use Rattle.callers.specs.Callers.{InImage};
 ghost use Rattle.transfer.specs.Passes.{point_at, toward, word_passes};
 ghost use Rattle.marks.specs.Marks.{Sited, Noted};
 ghost use Rattle.passing.specs.Passing.{Laid, asks, seen};
 ghost use Rattle.passing.specs.Tables.{ReadyIn, PassedIn, SameLoans};
 
+use cells::known::Facts;
 use control::Paged;
 use facts::Cell;
 use forms::Form;
@@ -28,7 +28,7 @@ use machine::act::Delivery;
 pub struct Reached {
     pub depth: usize,
     pub pc: usize,
-    pub facts: [u16; 11],
+    pub facts: Facts,
 }
 
 // The image, the table that is asked, the one that is joined into and its marks.
@@ -74,24 +74,19 @@ fn hand_on(t: &mut Tables<'_>, depth: usize, a: usize, d: Cell) -> bool
 // Passes facts on to a point; one at an address at or above N gets nothing. Says whether the cell did not hold them, as all
 // that follow do.
 pub fn pass(t: &mut Tables<'_>, to: Reached) -> bool
-    requires { ReadyIn t.old × (to.depth < 9) × Bounded to.facts }
+    requires { ReadyIn t.old × (to.depth < 9) }
     ensures passed { PassedIn t.old to.depth (toward (word_count t.old.image.now) to.depth to.pc to.facts) t.new result }
     ensures lent { SameLoans t.old t.new }
 {
     if t.image.len() / 2 <= to.pc {
         return false;
     }
-    let facts = to.facts;
-    let d = Cell {
-        reached: true,
-        facts,
-    };
-    hand_on(t, to.depth, to.pc, d)
+    hand_on(t, to.depth, to.pc, to.facts.cell())
 }
 
 // The same where a test holds, and else nothing.
 pub fn pass_if(t: &mut Tables<'_>, to: Reached, test: bool) -> bool
-    requires { ReadyIn t.old × (to.depth < 9) × Bounded to.facts }
+    requires { ReadyIn t.old × (to.depth < 9) }
     ensures passed { PassedIn t.old to.depth (pick test (toward (word_count t.old.image.now) to.depth to.pc to.facts) []) t.new result }
     ensures lent { SameLoans t.old t.new }
 {
@@ -102,9 +97,9 @@ pub fn pass_if(t: &mut Tables<'_>, to: Reached, test: bool) -> bool
 }
 
 // MOVE, ADD, AND, XOR and XMIT.
-fn pass_act(t: &mut Tables<'_>, p: Reached, a: Delivery) -> bool
-    requires { ReadyIn t.old × (p.depth < 9) × InImage t.old.image.now p.pc × Bounded p.facts × (a.l < 8) }
-    ensures passed { PassedIn t.old p.depth (word_passes (word_count t.old.image.now) p.depth p.pc p.facts (shape_of_delivery a)) t.new result }
+fn pass_act(t: &mut Tables<'_>, p: &Reached, a: Delivery) -> bool
+    requires { ReadyIn t.old × (p.now.depth < 9) × InImage t.old.image.now p.now.pc × (a.l < 8) }
+    ensures passed { PassedIn t.old p.now.depth (word_passes (word_count t.old.image.now) p.now.depth p.now.pc p.now.facts (shape_of_delivery a)) t.new result }
     ensures lent { SameLoans t.old t.new }
 {
     let x = effects::argument_fact(p.facts, a);
@@ -112,30 +107,30 @@ fn pass_act(t: &mut Tables<'_>, p: Reached, a: Delivery) -> bool
     let to = Reached {
         pc: p.pc + 1,
         facts,
-        ..p
+        ..*p
     };
     pass(t, to)
 }
 
 // NZT: on, and away.
-fn pass_branch(t: &mut Tables<'_>, p: Reached, w: Paged) -> bool
-    requires { ReadyIn t.old × (p.depth < 9) × InImage t.old.image.now p.pc × Bounded p.facts × (w.l < 8) }
-    ensures passed { PassedIn t.old p.depth (word_passes (word_count t.old.image.now) p.depth p.pc p.facts (branch_shape w)) t.new result }
+fn pass_branch(t: &mut Tables<'_>, p: &Reached, w: Paged) -> bool
+    requires { ReadyIn t.old × (p.now.depth < 9) × InImage t.old.image.now p.now.pc × (w.l < 8) }
+    ensures passed { PassedIn t.old p.now.depth (word_passes (word_count t.old.image.now) p.now.depth p.now.pc p.now.facts (branch_shape w)) t.new result }
     ensures lent { SameLoans t.old t.new }
 {
     let v = callers::values_of(p.facts, w.s, w.l);
-    let next = Reached { pc: p.pc + 1, ..p };
+    let next = Reached { pc: p.pc + 1, ..*p };
     let on = pass_if(t, next, v.low == 0);
     let pc = control::in_page(w.page, p.pc, usize::from(w.i));
-    let target = Reached { pc, ..p };
+    let target = Reached { pc, ..*p };
     let away = pass_if(t, target, 1 < v.low + v.count);
     on | away
 }
 
 // CALL: to every page that AUX may be, up to the last of the image.
-fn pass_call(t: &mut Tables<'_>, p: Reached, i: u8) -> bool
-    requires { ReadyIn t.old × (p.depth < 9) × Bounded p.facts }
-    ensures passed { PassedIn t.old p.depth (word_passes (word_count t.old.image.now) p.depth p.pc p.facts (go (register 0 0 0) (call i))) t.new result }
+fn pass_call(t: &mut Tables<'_>, p: &Reached, i: u8) -> bool
+    requires { ReadyIn t.old × (p.now.depth < 9) }
+    ensures passed { PassedIn t.old p.now.depth (word_passes (word_count t.old.image.now) p.now.depth p.now.pc p.now.facts (go (register 0 0 0) (call i))) t.new result }
     ensures lent { SameLoans t.old t.new }
 {
     if p.depth == state::PLACES {
@@ -151,7 +146,7 @@ fn pass_call(t: &mut Tables<'_>, p: Reached, i: u8) -> bool
         let to = Reached {
             depth: p.depth + 1,
             pc,
-            ..p
+            ..*p
         };
         changed |= pass(t, to);
     }
@@ -159,14 +154,14 @@ fn pass_call(t: &mut Tables<'_>, p: Reached, i: u8) -> bool
 }
 
 // What a word that is executed at a point passes on; RET is told by walking::pass_back.
-pub fn pass_word(t: &mut Tables<'_>, p: Reached, form: Form) -> bool
-    requires { ReadyIn t.old × (p.depth < 9) × InImage t.old.image.now p.pc × Bounded p.facts × FormFits form }
-    ensures passed { PassedIn t.old p.depth (word_passes (word_count t.old.image.now) p.depth p.pc p.facts (shape_is form)) t.new result }
+pub fn pass_word(t: &mut Tables<'_>, p: &Reached, form: Form) -> bool
+    requires { ReadyIn t.old × (p.now.depth < 9) × InImage t.old.image.now p.now.pc × FormFits form }
+    ensures passed { PassedIn t.old p.now.depth (word_passes (word_count t.old.image.now) p.now.depth p.now.pc p.now.facts (shape_is form)) t.new result }
     ensures lent { SameLoans t.old t.new }
 {
     match form {
         Form::Act(a) => pass_act(t, p, a),
-        Form::Jump { a } => pass(t, Reached { pc: a, ..p }),
+        Form::Jump { a } => pass(t, Reached { pc: a, ..*p }),
         Form::Branch(w) => pass_branch(t, p, w),
         Form::Call { i } => pass_call(t, p, i),
         Form::Defer(_) | Form::Return | Form::Invalid => false,

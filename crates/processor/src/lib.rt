@@ -16,14 +16,14 @@ use word::Word;
 #[tactic(auto, unfolding(machine::specs::Step::go_state))]
 fn execute(
     form: Form,
-    map: &[u8],
+    map: &[u8; map::LENGTH],
     bus: [u8; 2],
     q: Sequencer,
     values: &mut [u8; 11],
     latches: &mut [u8; 2],
     returns: &mut [u16; 8],
 ) -> Effect
-    requires { Ready map.now q × FormFits form }
+    requires { Ready q × FormFits form }
     ensures { outcome result values.new latches.new returns.new ≡ word_step map.now (shape_is form) bus (whole q values.old latches.old returns.old) }
 {
     match form {
@@ -67,21 +67,21 @@ pub fn fetched_of(word: Word) -> Option<Word>
 pub fn fetch_address(q: Sequencer) -> usize
     ensures { result ≡ fetch_of q }
 {
-    if q.flag == 1 { q.pending } else { q.pc }
+    q.pending.unwrap_or(q.pc)
 }
 
 // One step of a machine that is not stopped. The word is decoded here and not by word_at, so that the decoder becomes part
 // of the loop over steps.
 pub fn step(
     image: &[u8],
-    map: &[u8],
+    map: &[u8; map::LENGTH],
     bus: [u8; 2],
     q: Sequencer,
     values: &mut [u8; 11],
     latches: &mut [u8; 2],
     returns: &mut [u16; 8],
 ) -> Effect
-    requires { Runs image.now map.now q }
+    requires { Runs image.now q }
     ensures { step_from (whole q values.old latches.old returns.old) (outcome result values.new latches.new returns.new) ≡ stepped image.now map.now bus (whole q values.old latches.old returns.old) }
 {
     let at = fetch_address(q);

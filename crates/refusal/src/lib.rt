@@ -1,7 +1,7 @@
-// Why a call is refused at its door: the question that got the first no.
+// Why a call is refused: the question at its door that got the first no, or a word that is not listed.
 #![tactic(auto)]
 
-ghost use Rattle.std.specs.Prelude.{◌≡◌, ◌<◌};
+ghost use Rattle.std.specs.Prelude.{◌≡◌};
 ghost use Rattle.refusal.specs.Refusal.{refusal_number};
 
 #[derive(Clone, Copy, Debug, PartialEq, Eq)]
@@ -12,6 +12,7 @@ pub enum Refusal {
     State,
     Recording,
     Trace,
+    Input,
     Unlisted,
     Page,
 }
@@ -28,6 +29,7 @@ impl Refusal {
             Refusal::State => 14,
             Refusal::Recording => 15,
             Refusal::Trace => 16,
+            Refusal::Input => 18,
             Refusal::Unlisted => 22,
             Refusal::Page => 41,
         }

@@ -25,9 +25,9 @@ use Rattle.report.specs.Report.{answer_line, words_line}
 pub part_long : (buffer : List ℕ) (n : ℕ) → n ≤ length buffer → n ≡ length (take n buffer)
 part_long buffer n h = sym (length-take-le n buffer h)
 
--- what the lines are made of: an image of at most 400 words, and a map of its length
-abbrev pub LetIn : ℕ → List ℕ → List ℕ → Type 0
-LetIn room map image = (64 ≤ room) × (length map ≡ map_length) × (image_fits image ≡ true) × (length image ≤ 800)
+-- what the lines are made of: an image of at most 400 words
+abbrev pub LetIn : ℕ → List ℕ → Type 0
+LetIn room image = (64 ≤ room) × (image_fits image ≡ true) × (length image ≤ 800)
 
 answered : (image map table : List ℕ) → image_fits image ≡ true → length map ≡ map_length → length table ≡ table_length image
     → (admit_result image map table).answer ≡ verdict_of image map (least_table image)
@@ -36,12 +36,12 @@ answered image map table words long room =
     rw (words, eq-eqb (length map) map_length long, eq-eqb (length table) (table_length image) room)
 
 -- the answer of a call with the part of the buffer that the image needs
-pub verdict : (image map : List ℕ) {room sweeps : ℕ} {last : List ℕ} {r : AdmitAnswer} → LetIn room map image → (buffer : List ℕ) → 57600 ≡ length buffer
+pub verdict : (image map : List ℕ) {room sweeps : ℕ} {last : List ℕ} {r : AdmitAnswer} → LetIn room image → length map ≡ map_length → (buffer : List ℕ) → 57600 ≡ length buffer
     → resulting r sweeps last ≡ admit_result image map (take (length image / 2 * 144) buffer) → r ≡ verdict_of image map (least_table image)
-verdict image map pre buffer full e =
+verdict image map pre sized buffer full e =
     let part = take (length image / 2 * 144) buffer in
-    let long = part_long buffer (length image / 2 * 144) (omega (arith, pre.3)) in
-    ap (λ (x : AdmitResult). x.answer) e ∙ answered image map part pre.2 pre.1 (omega (arith, long))
+    let long = part_long buffer (length image / 2 * 144) (omega (arith, pre.2)) in
+    ap (λ (x : AdmitResult). x.answer) e ∙ answered image map part pre.1 sized (omega (arith, long))
 
 module _ (image map : List ℕ) {r : AdmitAnswer} (e : r ≡ verdict_of image map (least_table image)) where
   -- the answer's line is the words' line

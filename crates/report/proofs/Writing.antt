@@ -46,23 +46,7 @@ module _ {o a b : List ℕ} {i p q : ℕ} where
       the_same (behind u v)
       (append_assoc admitted_text (decimal words) (sets_text g h k l) ∙ rw (f, counts.0, counts.1, counts.2, counts.3))
 
--- ---- the counts of a map of its length
-
-pub none_refused : (map : List ℕ) (r : Result SetSizes Refusal) → length map ≡ map_length → counts_told r ≡ counted map
-    → ((sizes : SetSizes) → r ≡ Ok sizes → ⊥) → ⊥
-unfolding counted
-none_refused map (Ok sizes) long e other = other sizes refl
-none_refused map (Err refusal) long e other =
-    let told : counted map ≡ Sets (count_of map 0) (count_of map 1) (count_of map 2) (count_of map 3) = rw (eq-eqb (length map) map_length long) in
-    let z : ◌≡◌ {A = ℕ} 0 1 = cc in
-    omega arith
-
-pub sets : (map : List ℕ) {r : Counts} {g h k l : ℕ} → length map ≡ map_length → r ≡ counted map → r ≡ Sets g h k l
-    → (g ≡ count_of map 0) × (h ≡ count_of map 1) × (k ≡ count_of map 2) × (l ≡ count_of map 3)
-unfolding counted
-sets map long e f =
-    let told : counted map ≡ Sets (count_of map 0) (count_of map 1) (count_of map 2) (count_of map 3) = rw (eq-eqb (length map) map_length long) in
-    ((cc), (cc), (cc), (cc))
+-- ---- the counts of a map
 
 pub small_counts : (map : List ℕ) {g h k l : ℕ} → (g ≡ count_of map 0) × (h ≡ count_of map 1) × (k ≡ count_of map 2) × (l ≡ count_of map 3)
     → (g < 1000) × (h < 1000) × (k < 1000) × (l < 1000)

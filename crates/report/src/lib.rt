@@ -2,7 +2,6 @@
 #![tactic(auto)]
 
 ghost use Rattle.std.specs.Prelude.{◌≡◌, List, true, ℕ, ◌+◌, ◌≤◌, ◌<◌, length, Ok, IfSome};
-ghost use Rattle.map.specs.Map.{map_length};
 ghost use Rattle.machine.specs.Step.{word_count};
 ghost use Rattle.emulator.specs.Run.{image_fits};
 ghost use Rattle.text.specs.Parts.{Written};
@@ -33,20 +32,17 @@ fn put_sets(out: &mut [u8], at: usize, sizes: SetSizes) -> usize
     text::put_value(out, d, b" ", sizes.right_writable)
 }
 
-fn put_admitted(out: &mut [u8], words: usize, map: &[u8]) -> usize
-    requires { (64 ≤ length out.old) × (words < 1000) × (length map.now ≡ map_length) }
+fn put_admitted(out: &mut [u8], words: usize, map: &[u8; map::LENGTH]) -> usize
+    requires { (64 ≤ length out.old) × (words < 1000) }
     ensures { ((image : List ℕ) → words ≡ word_count image → Written out.old 0 (admitted_line image map.now) out.new result) × (result < 64) }
 {
     let a = text::put_value(out, 0, b"admitted words ", words);
-    let Ok(sizes) = map::count(map) else {
-        return a;
-    };
-    put_sets(out, a, sizes)
+    put_sets(out, a, map::sizes(map))
 }
 
 // The first cell that has a finding, or that none has.
-fn put_first(out: &mut [u8], words: usize, map: &[u8], first: Option<Failure>) -> usize
-    requires { (64 ≤ length out.old) × (words < 1000) × (length map.now ≡ map_length) × IfSome first (λ f. (fault_number f.fault < 1000) × (f.depth < 1000) × (f.address < 1000)) }
+fn put_first(out: &mut [u8], words: usize, map: &[u8; map::LENGTH], first: Option<Failure>) -> usize
+    requires { (64 ≤ length out.old) × (words < 1000) × IfSome first (λ f. (fault_number f.fault < 1000) × (f.depth < 1000) × (f.address < 1000)) }
     ensures { ((image : List ℕ) → words ≡ word_count image → Written out.old 0 (answer_line image map.now (admit_told (Ok first))) out.new result) × (result < 64) }
 {
     match first {
@@ -63,8 +59,8 @@ fn table_buffer() -> [u8; 57600]
 }
 
 // What admission of an image of at most 400 words answers, as a line.
-pub fn put_answer(out: &mut [u8], map: &[u8], image: &[u8]) -> usize
-    requires { (64 ≤ length out.old) × (length map.now ≡ map_length) × (image_fits image.now ≡ true) × (length image.now ≤ 800) }
+pub fn put_answer(out: &mut [u8], map: &[u8; map::LENGTH], image: &[u8]) -> usize
+    requires { (64 ≤ length out.old) × (image_fits image.now ≡ true) × (length image.now ≤ 800) }
     ensures { Written out.old 0 (words_line map.now image.now) out.new result × (result < 64) }
 {
     let words = image.len() / 2;

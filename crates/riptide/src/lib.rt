@@ -37,7 +37,7 @@ pub fn riptide_write_word(op: usize, a: usize, b: usize, c: usize) -> u64
 {
     match encoding::encode(numbers::word_from(op, a, b, c)) {
         Some(w) => u64::from(w) * 256,
-        None => 22,
+        None => u64::from(Refusal::Unlisted.number()),
     }
 }
 

@@ -3,7 +3,8 @@
 
 ghost use Rattle.std.specs.Prelude.{◌≡◌, ◌<◌, true, false, length, Ok, IfOk, IfErr};
 ghost use Rattle.refusal.specs.declared.Refusal.{Refusal};
-ghost use Rattle.state.specs.State.{state_length, EachBelow, loaded};
+ghost use Rattle.state.specs.State.{state_length, EachBelow, Formed, loaded};
+ghost use Rattle.machine.specs.Parts.{whole};
 ghost use Rattle.emulator.specs.Run.{ran_over, state_fits, trace_fits, run_told, yielded, ended, run_result};
 ghost use Rattle.emulator.specs.Parts.{last_state, Accepted};
 
@@ -12,6 +13,19 @@ use machine::Sequencer;
 use refusal::Refusal;
 use state::State;
 
+// The sequencer of a well-formed state that is not stopped: an XEC is pending where the flag is 1.
+fn sequencer_of(s: State) -> Sequencer
+    requires { Formed s × (s.stop ≡ 0) }
+    ensures { whole result s.values s.latches s.returns ≡ s }
+{
+    let pending = if s.flag == 1 { Some(s.pending) } else { None };
+    Sequencer {
+        pc: s.pc,
+        pending,
+        depth: s.depth,
+    }
+}
+
 // The state that the steps of a run leave.
 fn last_state(last: Last, values: [u8; 11], latches: [u8; 2], returns: [u16; 8]) -> State
     ensures { result ≡ last_state last values latches returns }
@@ -19,8 +33,8 @@ fn last_state(last: Last, values: [u8; 11], latches: [u8; 2], returns: [u16; 8])
     let q = last.q;
     State {
         pc: q.pc,
-        flag: q.flag,
-        pending: q.pending,
+        flag: usize::from(q.pending.is_some()),
+        pending: q.pending.unwrap_or(0),
         values,
         latches,
         depth: q.depth,
@@ -32,21 +46,16 @@ fn last_state(last: Last, values: [u8; 11], latches: [u8; 2], returns: [u16; 8])
 // The steps of a run from a state that is not stopped, and the state stored.
 fn run_from(
     image: &[u8],
-    map: &[u8],
+    map: &[u8; map::LENGTH],
     s: State,
     state: &mut [u8],
     recording: &[u8],
     trace: &mut [u8],
 ) -> RunEnd
-    requires { Accepted image.now map.now recording.now trace.old s × (s.stop ≡ 0) × (length state.old ≡ state_length) }
+    requires { Accepted image.now recording.now trace.old s × (s.stop ≡ 0) × (length state.old ≡ state_length) }
     ensures { yielded (run_told (Ok result)) state.new trace.new ≡ ended trace.old (ran_over image.now map.now recording.now s) }
 {
-    let start = Sequencer {
-        pc: s.pc,
-        flag: s.flag,
-        pending: s.pending,
-        depth: s.depth,
-    };
+    let start = sequencer_of(s);
     let mut values = s.values;
     let mut latches = s.latches;
     let mut returns = s.returns;
@@ -105,9 +114,9 @@ pub fn run(
     if !emulator::image_fits(image) {
         return Err(Refusal::Image);
     }
-    if map.len() != map::LENGTH {
+    let Ok(map) = <&[u8; map::LENGTH]>::try_from(map) else {
         return Err(Refusal::Map);
-    }
+    };
     let s = state_of(state)?;
     if recording.len() % PAIR != 0 {
         return Err(Refusal::Recording);

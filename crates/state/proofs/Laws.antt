@@ -17,22 +17,11 @@ use Rattle.state.specs.State.{state_length, stack_places, overflow_slot, stored,
 pub cons_eq : {x y : ℕ} {xs ys : List ℕ} → x ≡ y → xs ≡ ys → x ∷ xs ≡ y ∷ ys
 cons_eq p q = cc
 
--- two tests are equal by their parts
-pub and_eq : {a b c d : Bool} → a ≡ c → b ≡ d → (a && b) ≡ (c && d)
-and_eq p q = cc
-
 -- states are equal by their fields
 pub by_fields : {s t : State} → s.pc ≡ t.pc → s.flag ≡ t.flag → s.pending ≡ t.pending → s.values ≡ t.values
     → s.latches ≡ t.latches → s.depth ≡ t.depth → s.returns ≡ t.returns → s.stop ≡ t.stop → s ≡ t
 by_fields a b c d e f g h =
     λ i. record { pc = a i; flag = b i; pending = c i; values = d i; latches = e i; depth = f i; returns = g i; stop = h i }
-
--- the test for a well-formed state, by its parts
-pub well_formed_eq : (s : State) {f r p : Bool} → f ≡ flag_fits s.flag s.pc s.pending
-    → r ≡ stack_fits s.depth s.returns stack_places → p ≡ is_stop s.stop
-    → ((f && ltb (get_or s.values overflow_slot 0) 2) && ((leb s.depth stack_places && r) && p)) ≡ well_formed s
-unfolding well_formed
-well_formed_eq s f r p = rw (f, r, p)
 
 -- a copy of a list over one of its length is the list
 pub copied : (src dst last : List ℕ) → length dst ≡ length src → last ≡ take (length src) src ++ drop (length src) dst → last ≡ src
@@ -42,7 +31,3 @@ copied src dst last same e =
 pub stored_length : (s : State) → length (stored s) ≡ state_length
 unfolding stored
 stored_length s = refl
-
--- what is left of a number by 256 is a byte
-pub byte_fits : (n : ℕ) → Fits w8 (n % 256)
-byte_fits n = record { fits = omega arith }

@@ -17,6 +17,8 @@ pub const OVERFLOW: usize = 8;
 pub const ADDRESS: usize = 9;
 
 // Values in the order of the eleven facts of a table record: AUX, R1-R6, R11, OVF, left and right bus address.
+// Flag, pending address and stop are numbers: any bytes load, and `loaded` and `well_formed` speak of what they hold. The call stack has
+// eight places beside its depth, as those definitions have it.
 #[derive(Clone, Copy)]
 pub struct State {
     pub pc: usize,

@@ -6,51 +6,20 @@ ghost use Rattle.state.specs.State.{state_length, stored};
 
 use state::State;
 
-// One literal, in the order in which `stored` lists the bytes: each stands beside its place.
-#[tactic(auto, unfolding(state::specs::State::stored))]
+// The parts one behind another, as `stored` lists them.
 pub fn store(s: State, bytes: &mut [u8])
     requires { length bytes.old ≡ state_length }
     ensures { bytes.new ≡ stored s }
 {
-    let v = s.values;
-    let l = s.latches;
-    let r = s.returns;
-    bytes.copy_from_slice(&[
-        (s.pc % 256) as u8,
-        (s.pc / 256 % 256) as u8,
-        (s.flag % 256) as u8,
-        (s.pending % 256) as u8,
-        (s.pending / 256 % 256) as u8,
-        v[0],
-        v[1],
-        v[2],
-        v[3],
-        v[4],
-        v[5],
-        v[6],
-        v[7],
-        v[8],
-        v[9],
-        v[10],
-        l[0],
-        l[1],
-        (s.depth % 256) as u8,
-        (r[0] % 256) as u8,
-        (r[0] / 256 % 256) as u8,
-        (r[1] % 256) as u8,
-        (r[1] / 256 % 256) as u8,
-        (r[2] % 256) as u8,
-        (r[2] / 256 % 256) as u8,
-        (r[3] % 256) as u8,
-        (r[3] / 256 % 256) as u8,
-        (r[4] % 256) as u8,
-        (r[4] / 256 % 256) as u8,
-        (r[5] % 256) as u8,
-        (r[5] / 256 % 256) as u8,
-        (r[6] % 256) as u8,
-        (r[6] / 256 % 256) as u8,
-        (r[7] % 256) as u8,
-        (r[7] / 256 % 256) as u8,
-        (s.stop % 256) as u8,
-    ]);
+    let [pc_low, pc_high, ..] = s.pc.to_le_bytes();
+    let [flag, ..] = s.flag.to_le_bytes();
+    let [pending_low, pending_high, ..] = s.pending.to_le_bytes();
+    let [depth, ..] = s.depth.to_le_bytes();
+    let [stop, ..] = s.stop.to_le_bytes();
+    bytes[..5].copy_from_slice(&[pc_low, pc_high, flag, pending_low, pending_high]);
+    bytes[5..16].copy_from_slice(&s.values);
+    bytes[16..18].copy_from_slice(&s.latches);
+    bytes[18] = depth;
+    bytes[19..35].copy_from_slice(s.returns.map(u16::to_le_bytes).as_flattened());
+    bytes[35] = stop;
 }

@@ -8,54 +8,17 @@ use native.Mathlib.Omega.{arith}
 use lib.Dec.{ltb}
 use borrow.Author.Tests.{lt-ltb, not-true, not-false}
 use Rattle.choice.specs.Choice.{pick}
-use Rattle.bitset.specs.Bitset.{has, Put, Taken}
+use Rattle.bitset.specs.Bitset.{has, Taken}
 use Rattle.machine.specs.Step.{word_count, shape_at}
 use Rattle.machine.specs.Shape.{Shape}
 use Rattle.forms.specs.declared.Form.{Form}
 use Rattle.forms.specs.Forms.{shape_is}
 use Rattle.facts.specs.declared.Cell.{Cell}
-use Rattle.facts.specs.Record.{depths, cell_at, put_cell, join_cell, holds_cell}
+use Rattle.facts.specs.Record.{depths}
 use Rattle.transfer.specs.Passes.{is_return, words_at, some, all_passes}
 use Rattle.callers.proofs.Points.{point_small, point_depth, point_address}
-use Rattle.marks.specs.Marks.{set_size, is_due, is_changed, is_born, returns_at, own_passes}
-use Rattle.sweeps.specs.Turns.{Place, Read, Told, Begun, HubKept}
-
--- ---- a number told
-pub told_in : {m n : List ℕ} {i : ℕ} {on : Bool} → on ≡ true → Put m i n → Told m i on n
-told_in e p = record { long = p.long; here = p.here ∙ sym e; others = p.others }
-
-pub told_out : {m n : List ℕ} {i : ℕ} {on : Bool} → on ≡ false → Taken m i n → Told m i on n
-told_out e p = record { long = p.long; here = p.here ∙ sym e; others = p.others }
-
--- ---- what the hub covers
-pub not_covered : {b r : Bool} (h : Bool) → r ≡ b → r ≡ true → false ≡ (not b && h)
-not_covered h e y = ap (λ (x : Bool). not x && h) (sym y ∙ e)
-
-pub covered_by : {b r s : Bool} {hub at : Cell} (d : Cell) → r ≡ b → r ≡ false → hub ≡ at → s ≡ holds_cell hub d → s ≡ (not b && holds_cell at d)
-covered_by {at = at} d e out same told =
-    told ∙ ap (λ (x : Cell). holds_cell x d) same ∙ ap (λ (x : Bool). not x && holds_cell at d) (sym out ∙ e)
-
--- ---- the hub kept
-module _ (m hubs : List ℕ) (depth i : ℕ) (c : Cell) where
-  -- the cell is due again
-  pub hub_left : {r : Bool} → r ≡ is_due m i → r ≡ true → HubKept m hubs depth i c m hubs
-  hub_left e y =
-      let due : is_due m i ≡ true = sym e ∙ y in
-      record { long = refl; hub = rw due refl; born = rw due refl; others = λ j ne. refl }
-
-  module _ {r s : Bool} (e : r ≡ is_due m i) (out : r ≡ false) (b : s ≡ is_born m depth) where
-    -- a call site was born
-    pub hub_made : s ≡ true → {n hubs₁ : List ℕ} → Taken m (4 * set_size + depth) n → hubs₁ ≡ put_cell hubs depth c → HubKept m hubs depth i c n hubs₁
-    hub_made y t made =
-        let due : is_due m i ≡ false = sym e ∙ out in
-        let born : is_born m depth ≡ true = sym b ∙ y in
-        record { long = t.long; hub = rw (due, born) made; born = rw due t.here; others = t.others }
-
-    pub hub_joined : s ≡ false → {hubs₁ : List ℕ} → hubs₁ ≡ put_cell hubs depth (join_cell (cell_at hubs depth) c) → HubKept m hubs depth i c m hubs₁
-    hub_joined none made =
-        let due : is_due m i ≡ false = sym e ∙ out in
-        let born : is_born m depth ≡ false = sym b ∙ none in
-        record { long = refl; hub = rw (due, born) made; born = rw due born; others = λ j ne. refl }
+use Rattle.marks.specs.Marks.{set_size, is_changed, returns_at, own_passes}
+use Rattle.sweeps.specs.Turns.{Place, Read, Told, Begun}
 
 -- ---- a cell at its depth and PC
 module _ (image : List ℕ) (i depth pc : ℕ) (p : Place image i depth pc) where
@@ -73,14 +36,6 @@ module _ (image : List ℕ) (i depth pc : ℕ) (p : Place image i depth pc) wher
     returns_here : returns_at image i c ≡ (c.reached && (ltb 0 depth && some is_return (words_at image pc c.facts (shape_at image pc))))
     returns_here =
         ap₂ (λ (d a : ℕ). c.reached && (ltb 0 d && some is_return (words_at image a c.facts (shape_at image a)))) place_depth place_address
-
-    pub returns_unreached : not c.reached ≡ true → false ≡ returns_at image i c
-    returns_unreached h = let out : c.reached ≡ false = not-true c.reached h in rw out refl
-
-    pub returns_top : not c.reached ≡ false → depth ≡ 0 → false ≡ returns_at image i c
-    returns_top h e =
-        let in_reach : c.reached ≡ true = not-false c.reached h in
-        sym (returns_here ∙ ap₂ (λ (b : Bool) (d : ℕ). b && (ltb 0 d && some is_return (words_at image pc c.facts (shape_at image pc)))) in_reach e)
 
     pub returns_told : {form : Form} {r : Bool} → not c.reached ≡ false → (depth ≡ 0 → ⊥) → Read image pc form
         → r ≡ some is_return (words_at image pc c.facts (shape_is form)) → r ≡ returns_at image i c

@@ -159,7 +159,3 @@ back_none image t m hubs depth facts {b = b} g s h e = rw e
       moves = moves_none s;
       shown = h;
     })
-
-pub back_gone : {image t m : List ℕ} {ps : List (Pass Cell)} {u n hubs : List ℕ} {b r : Bool} → b ≡ true → Turned image t m ps u n hubs r
-    → Turned image t m (pick b ps []) u n hubs r
-back_gone {image = image} {t = t} {m = m} {ps = ps} {u = u} {n = n} {hubs = hubs} {r = r} e d = subst⁻¹ (λ (x : Bool). Turned image t m (pick x ps []) u n hubs r) e d

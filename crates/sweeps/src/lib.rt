@@ -5,13 +5,13 @@ ghost use Rattle.std.specs.Prelude.{◌≡◌, true, not, ◌&&◌, [], ◌-◌,
 ghost use Rattle.choice.specs.Choice.{pick};
 ghost use Rattle.machine.specs.Step.{word_count};
 ghost use Rattle.facts.specs.Record.{depths, cell_at, holds_cell, FineCell, Layout};
-ghost use Rattle.cells.specs.Cells.{Bounded};
 ghost use Rattle.transfer.specs.Passes.{return_passes};
 ghost use Rattle.marks.specs.Marks.{set_size, mark_words, is_returning, is_born, returns_at, own_passes, Sited, Hubs, Agenda};
 ghost use Rattle.passing.specs.Passing.{Laid, Ready, Passed};
 ghost use Rattle.sweeps.specs.Turns.{Place, Read, OneDown, Told, Begun, HubKept, Turned, TurnDone, SweepDone};
 
 use callers::Asked;
+use cells::known::Facts;
 use facts::Cell;
 use forms::Form;
 use marks::{BORN, CHANGED, RETURNING};
@@ -27,7 +27,7 @@ struct Due {
     form: Form,
 }
 
-// Puts a number into a set, or takes it out.
+// Puts a number into a set, or takes it out: the truth of `on` is what is stored.
 fn tell(set: &mut [u64], i: usize, on: bool)
     requires { i < 64 * length set.old }
     ensures { Told set.old i on set.new }
@@ -50,7 +50,7 @@ fn returns(image: &[u8], t: Due) -> bool
     if t.depth == 0 {
         return false;
     }
-    callers::performs(image, t.pc, t.c.facts, t.form, Asked::Return)
+    callers::performs(image, t.pc, Facts::of(t.c), t.form, Asked::Return)
 }
 
 // The marks as the turn begins. Says whether the cell's record changed since its last turn.
@@ -79,11 +79,10 @@ fn own_turn(image: &[u8], table: &mut [u8], marks: &mut [u64], t: Due, changed: 
     if !t.c.reached {
         return false;
     }
-    let facts = t.c.facts;
     let p = Reached {
         depth: t.depth,
         pc: t.pc,
-        facts,
+        facts: Facts::of(t.c),
     };
     let mut tables = Tables {
         image,
@@ -91,7 +90,7 @@ fn own_turn(image: &[u8], table: &mut [u8], marks: &mut [u64], t: Due, changed: 
         table,
         marks,
     };
-    walking::pass_words(&mut tables, p, t.form)
+    walking::pass_words(&mut tables, &p, t.form)
 }
 
 // Does the address after every call site at a depth hold what the hub there holds, and with it c?
@@ -125,14 +124,8 @@ fn keep_hub(marks: &mut [u64], hubs: &mut [u8], depth: usize, i: usize, c: Cell)
 }
 
 // RET back to a depth, joined in: no table is asked.
-fn walk_back(
-    image: &[u8],
-    table: &mut [u8],
-    marks: &mut [u64],
-    depth: usize,
-    facts: [u16; 11],
-) -> bool
-    requires { Ready image.now [] table.old marks.old × (depth < 9) × Bounded facts }
+fn walk_back(image: &[u8], table: &mut [u8], marks: &mut [u64], depth: usize, facts: Facts) -> bool
+    requires { Ready image.now [] table.old marks.old × (depth < 9) }
     ensures { Passed image.now [] depth table.old marks.old (return_passes image.now table.old depth facts) table.new marks.new result }
 {
     let none = &image[..0];
@@ -145,48 +138,31 @@ fn walk_back(
     walking::pass_back(&mut tables, depth, facts)
 }
 
-// The return of cell i to a depth: nothing where the hub there covers it.
-fn back_to(
-    image: &[u8],
-    table: &mut [u8],
-    marks: &mut [u64],
-    hubs: &mut [u8],
-    depth: usize,
-    i: usize,
-    facts: [u16; 11],
-) -> bool
-    requires { Laid image.now table.old × Sited image.now table.old marks.old × Hubs image.now table.old marks.old hubs.old × OneDown image.now i depth × (is_returning marks.old i ≡ true) × Bounded facts }
-    ensures { Turned image.now table.old marks.old (return_passes image.now table.old depth facts) table.new marks.new hubs.new result }
+// The return of a cell one depth down: nothing where the hub there covers it.
+fn back_to(image: &[u8], table: &mut [u8], marks: &mut [u64], hubs: &mut [u8], t: Due) -> bool
+    requires { Laid image.now table.old × Sited image.now table.old marks.old × Hubs image.now table.old marks.old hubs.old × (0 < t.depth) × OneDown image.now t.i (t.depth - 1) × FineCell t.c × (is_returning marks.old t.i ≡ true) }
+    ensures { Turned image.now table.old marks.old (return_passes image.now table.old (t.depth - 1) t.c.facts) table.new marks.new hubs.new result }
 {
-    let c = Cell {
-        reached: true,
-        facts,
-    };
+    let depth = t.depth - 1;
+    let facts = Facts::of(t.c);
+    let c = facts.cell();
     if covered(marks, hubs, depth, c) {
         return false;
     }
     let r = walk_back(image, table, marks, depth, facts);
-    keep_hub(marks, hubs, depth, i, c);
+    keep_hub(marks, hubs, depth, t.i, c);
     r
 }
 
-// The same where cell i returns.
-fn go_back(
-    image: &[u8],
-    table: &mut [u8],
-    marks: &mut [u64],
-    hubs: &mut [u8],
-    i: usize,
-    depth: usize,
-    facts: [u16; 11],
-) -> bool
-    requires { Laid image.now table.old × Sited image.now table.old marks.old × Hubs image.now table.old marks.old hubs.old × (is_returning marks.old i ≡ true → (0 < depth) × OneDown image.now i (depth - 1)) × (i < set_size) × Bounded facts }
-    ensures { Turned image.now table.old marks.old (pick (is_returning marks.old i) (return_passes image.now table.old (depth - 1) facts) []) table.new marks.new hubs.new result }
+// The same where the cell returns.
+fn go_back(image: &[u8], table: &mut [u8], marks: &mut [u64], hubs: &mut [u8], t: Due) -> bool
+    requires { Laid image.now table.old × Sited image.now table.old marks.old × Hubs image.now table.old marks.old hubs.old × (is_returning marks.old t.i ≡ true → (0 < t.depth) × OneDown image.now t.i (t.depth - 1)) × FineCell t.c × (t.i < set_size) }
+    ensures { Turned image.now table.old marks.old (pick (is_returning marks.old t.i) (return_passes image.now table.old (t.depth - 1) t.c.facts) []) table.new marks.new hubs.new result }
 {
-    if !bitset::has(marks, RETURNING + i) {
+    if !bitset::has(marks, RETURNING + t.i) {
         return false;
     }
-    back_to(image, table, marks, hubs, depth - 1, i, facts)
+    back_to(image, table, marks, hubs, t)
 }
 
 // The turn of cell i.
@@ -208,12 +184,12 @@ fn turn(image: &[u8], table: &mut [u8], marks: &mut [u64], hubs: &mut [u8], i: u
     };
     let changed = begin(image, marks, t);
     let on = own_turn(image, table, marks, t, changed);
-    let back = go_back(image, table, marks, hubs, i, depth, c.facts);
+    let back = go_back(image, table, marks, hubs, t);
     on | back
 }
 
 // The turn of every cell that is due, in order. Says whether the table changed. `next` answers `size` where no more cell is
-// due, and so the loop ends by it: a Some and a None would have to be made of that first.
+// due (`Next`), and so the loop ends by it: a Some and a None would have to be made of that first.
 pub fn sweep(image: &[u8], table: &mut [u8], marks: &mut [u64], hubs: &mut [u8]) -> bool
     requires { Laid image.now table.old × Agenda image.now table.old marks.old hubs.old }
     ensures { SweepDone image.now table.old table.new marks.new hubs.new result }

@@ -1,4 +1,5 @@
-// Texts put into lent bytes, one behind another: bytes, numbers in decimal and in octal, spaces.
+// Texts put into lent bytes, one behind another: bytes, numbers in decimal and in octal, spaces. Digit by digit, as `decimal` and
+// `octal` tell them: nothing is allocated here.
 #![tactic(auto)]
 
 ghost use Rattle.std.specs.Prelude.{◌≡◌, ◌++◌, ◌+◌, ◌-◌, ◌/◌, ◌%◌, ◌^◌, ◌≤◌, ◌<◌, length};
@@ -50,7 +51,7 @@ pub fn put_value(out: &mut [u8], at: usize, text: &[u8], n: usize) -> usize
     put_decimal(out, b, n)
 }
 
-// A number of the door.
+// A number of the door. Not a `Refusal`: any number below 1,000 can be put, and that type would ask more of callers.
 pub fn put_door(out: &mut [u8], number: usize) -> usize
     requires { (11 ≤ length out.old) × (number < 1000) }
     ensures { Written out.old 0 (door_line number) out.new result × (result ≤ 11) }

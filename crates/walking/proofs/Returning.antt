@@ -1,36 +1,29 @@
 -- RET: passed on to the address after every call site, from the last on, so that a cell that changes is none that is
 -- still to be asked.
-use mathlib.Core.Path.{◌≡◌, refl, sym, ◌∙◌, ap, subst, subst⁻¹}
+use mathlib.Core.Path.{◌≡◌, refl, sym, ◌∙◌, ap, subst}
 use mathlib.Core.Bool.{Bool, true, false, not, ◌&&◌, ◌||◌, and-false}
 use mathlib.Core.List.{List, [], ◌++◌, append_assoc, append-nil}
 use Prim.Native.Nat.{ℕ, ◌+◌, ◌-◌, ◌*◌, ◌≤◌, ◌<◌}
-use native.Mathlib.Decide.{ℕ_discrete}
 use native.Mathlib.Omega.{arith}
 use lib.Arith.{digits_lt}
 use lib.Dec.{ltb}
-use lib.ListN.{length}
-use borrow.Author.Tests.{lt-ltb, le-ltb, ltb-true, not-true, not-false}
-use Rattle.std.specs.Prelude.{Option, None, Some, SomeIff}
+use borrow.Author.Tests.{le-ltb, ltb-true, not-true}
 use Rattle.choice.specs.Choice.{pick}
-use Rattle.choice.proofs.Laws.{and_both}
 use Rattle.machine.specs.Shape.{Shape}
 use Rattle.machine.specs.Step.{word_count, shape_at}
 use Rattle.flow.specs.Flow.{Pass}
 use Rattle.facts.specs.declared.Cell.{Cell}
-use Rattle.facts.specs.Record.{depths, cell_of, cell_at, FineCell, Layout}
+use Rattle.facts.specs.Record.{depths, cell_at}
 use Rattle.transfer.specs.Passes.{over_down, point_at, toward, is_return, some, words_at, all_passes, is_call_site, return_passes, cell_passes}
-use Rattle.callers.specs.Callers.{Held}
-use Rattle.bitset.specs.Bitset.{has, Last}
-use Rattle.marks.specs.Marks.{set_size, is_site}
+use Rattle.marks.specs.Marks.{is_site}
 use denote.Ref.{Bor}
 use Rattle.passing.specs.declared.Tables.{Tables}
 use Rattle.passing.specs.Tables.{SameLoans}
 use Rattle.passing.specs.Passing.{asks, seen, Ready, Passed}
 use Rattle.transfer.proofs.Lists.{down_none, down_more, down_skip}
 use Rattle.transfer.proofs.Returns.{same_site, returns_same}
-use Rattle.passing.proofs.Joining.{held}
-use Rattle.passing.proofs.Passing.{passed_as, passed_none, passed_then, passed_higher, passed_if, passed_not, toward_keeps, still_ready}
-use Rattle.walking.specs.Walking.{site_at, after_last, LastBelow}
+use Rattle.passing.proofs.Passing.{passed_as, passed_none, passed_then, passed_higher, passed_not, toward_keeps, still_ready}
+use Rattle.walking.specs.Walking.{site_at, LastBelow}
 
 -- the call sites that are found are those of the table that is seen
 pub sites_seen : (image asked t m : List ℕ) (depth a : ℕ) → Ready image asked t m → depth < depths → a < word_count image
@@ -42,31 +35,10 @@ sites_seen image asked t m depth a g d l = go (asks asked) refl
     go true e = refl
     go false e = (g.sited e).sites depth a d l
 
--- a table that is asked can be asked for call sites
-pub asked_held : (image asked t m : List ℕ) → Ready image asked t m → asks asked ≡ true → Held image asked
-asked_held image asked t m g e = held image asked g.words (subst (λ (b : Bool). Layout (depths * word_count image) (pick b asked t)) e g.layout)
-
 -- the last one as it is found
 module _ (image asked marks : List ℕ) (depth a : ℕ) where
   abbrev chosen : Bool → ℕ → Bool
   chosen b k = pick b (is_call_site image asked depth k) (is_site marks (point_at (word_count image) depth k))
-
-  pub asked_last : {r : ℕ} → 0 < length asked → LastBelow (is_call_site image asked depth) a r → LastBelow (site_at image asked marks depth) a r
-  asked_last {r = r} h last = subst⁻¹ (λ (b : Bool). LastBelow (chosen b) a r) (lt-ltb 0 (length asked) h) last
-
-  -- the marks of the call sites at a depth lie from `first` on
-  pub marked_last : {r : ℕ} → length asked ≤ 0 → Last marks (3 * set_size + depth * word_count image) (3 * set_size + depth * word_count image + a) r
-      → LastBelow (site_at image asked marks depth) a (r - (3 * set_size + depth * word_count image))
-  marked_last {r = r} h last = subst⁻¹ (λ (b : Bool). LastBelow (chosen b) a (r - (3 * set_size + depth * word_count image))) (le-ltb 0 (length asked) h)
-      (record {
-        high = omega (arith, last.high);
-        none = λ k l b.
-            let at : 3 * set_size + depth * word_count image + k ≡ 3 * set_size + point_at (word_count image) depth k = omega arith in
-            ap (has marks) (sym at) ∙ last.none (3 * set_size + depth * word_count image + k) (omega (arith, l)) (omega (arith, b));
-        found = λ some.
-            let at : r - 1 ≡ 3 * set_size + point_at (word_count image) depth (r - (3 * set_size + depth * word_count image) - 1) = omega (arith, some) in
-            ap (has marks) (sym at) ∙ last.found (omega (arith, some));
-      })
 
 -- the same tables, lent on
 pub last_on : {s t : Tables} (m : List ℕ) (depth : ℕ) {b r : ℕ} → SameLoans s t → LastBelow (site_at t.image.now t.asked.now m depth) b r
@@ -75,36 +47,12 @@ last_on {s} {t} m depth {b} {r} k last =
     subst (λ (im : Bor (List ℕ)). LastBelow (site_at im.now s.asked.now m depth) b r) k.image
     (subst (λ (asked : Bor (List ℕ)). LastBelow (site_at t.image.now asked.now m depth) b r) k.asked last)
 
--- the number of a mark from `first` on
-pub sub_last : (first : ℕ) (r : Option ℕ) (last : ℕ) → SomeIff r (first + 1 ≤ last) (last - (first + 1)) → after_last r ≡ last - first
-sub_last first None last h = omega (arith, h)
-sub_last first (Some x) last h = omega (arith, h.0, h.1)
-
 -- ---- the last call site of a table below an address
 module _ (image asked : List ℕ) (depth a : ℕ) where
   -- from b on there is none
   pub record Above (b : ℕ) : Type 0 where
     pub high : b ≤ a
     pub none : (k : ℕ) → b ≤ k → k < a → is_call_site image asked depth k ≡ false
-
-  pub above_all : Above a
-  above_all = record { high = omega arith; none = λ k l h. absurd (omega arith) }
-
-  pub above_more : (b : ℕ) → 0 < b → Above b → is_call_site image asked depth (b - 1) ≡ false → Above (b - 1)
-  above_more b some above clear = record { high = omega (arith, above.high); none = λ k l h. go k l h (ℕ_discrete k (b - 1)) }
-    where
-      go : (k : ℕ) → b - 1 ≤ k → k < a → Dec (k ≡ b - 1) → is_call_site image asked depth k ≡ false
-      go k l h (yes e) = ap (is_call_site image asked depth) e ∙ clear
-      go k l h (no ne) = above.none k (omega (arith, ne)) h
-
-  -- the one before b is the last
-  pub above_found : (b : ℕ) → 0 < b → Above b → is_call_site image asked depth (b - 1) ≡ true → LastBelow (is_call_site image asked depth) a (b - 1 + 1)
-  above_found b some above here =
-      record {
-        high = omega (arith, above.high);
-        none = λ k l h. above.none k (omega arith) h;
-        found = λ h. ap (is_call_site image asked depth) {x = b - 1 + 1 - 1} {y = b - 1} (omega arith) ∙ here;
-      }
 
 module _ (image asked t₀ m₀ : List ℕ) (depth : ℕ) (facts : List ℕ) where
   abbrev site : ℕ → Bool
@@ -146,9 +94,9 @@ module _ (image asked t₀ m₀ : List ℕ) (depth : ℕ) (facts : List ℕ) whe
         k.passed
 
     -- the last one that is left
-    pub backing_next : (a : ℕ) {u n : List ℕ} {r : Bool} → FineCell (cell_of true facts) → LastBelow (site_at image asked m depth) b (a + 1)
+    pub backing_next : (a : ℕ) {u n : List ℕ} {r : Bool} → LastBelow (site_at image asked m depth) b (a + 1)
         → Passed image asked depth t m (toward (word_count image) depth (a + 1) facts) u n r → Backing a u n (f || r)
-    backing_next a {u = u} fine last p =
+    backing_next a {u = u} last p =
         record {
           within = omega (arith, k.within, last.high);
           done = k.done ++ toward (word_count image) depth (a + 1) facts;
@@ -159,7 +107,7 @@ module _ (image asked t₀ m₀ : List ℕ) (depth : ℕ) (facts : List ℕ) whe
               (sym (skipped last ∙ first ∙ ap (λ (x : Bool). pick x (after a) [] ++ back_from a) yes))
               ∙ k.rest;
           same = λ j h.
-              toward_keeps image asked t m depth (a + 1) facts (still_ready g k.passed) d fine p (point_at (word_count image) depth j) (digits_lt d (omega (arith, h, last.high, k.within))) (λ q. omega (arith, q, h))
+              toward_keeps image asked t m depth (a + 1) facts (still_ready g k.passed) d p (point_at (word_count image) depth j) (digits_lt d (omega (arith, h, last.high, k.within))) (λ q. omega (arith, q, h))
               ∙ k.same j (omega (arith, h, last.high));
         }
       where
@@ -186,14 +134,6 @@ module _ (image asked t m : List ℕ) (depth : ℕ) (facts : List ℕ) (x : Bool
   back_without {b = b} e n g =
       let no : x ≡ false = sym e ∙ not-true b n in
       passed_not image asked (depth - 1) t m (ltb 0 depth && x) (return_passes image (seen asked t) (depth - 1) facts) (rw no (and-false (ltb 0 depth))) g
-
-  pub back_passed : {b : Bool} {u n : List ℕ} {r : Bool} → (depth ≡ 0 → ⊥) → b ≡ x → not b ≡ false
-      → Passed image asked (depth - 1) t m (return_passes image (seen asked t) (depth - 1) facts) u n r
-      → Passed image asked (depth - 1) t m (pick (ltb 0 depth && x) (return_passes image (seen asked t) (depth - 1) facts) []) u n r
-  back_passed {b = b} z e n p =
-      let yes : x ≡ true = sym e ∙ not-false b n in
-      let deep : ltb 0 depth ≡ true = lt-ltb 0 depth (omega (arith, z)) in
-      passed_if (ltb 0 depth && x) (return_passes image (seen asked t) (depth - 1) facts) (and_both deep yes) p
 
 -- the call sites of a lower depth are as they were, so that they can be asked of the table at first
 pub back_same : (image t : List ℕ) (depth : ℕ) (facts : List ℕ) (x : Bool) (u : List ℕ) → ((i : ℕ) → i < depth * word_count image → cell_at u i ≡ cell_at t i)

@@ -7,24 +7,24 @@ ghost use Rattle.choice.specs.Choice.{pick};
 ghost use Rattle.machine.specs.Step.{word_count, shape_at};
 ghost use Rattle.control.specs.Pages.{page_size, defer_shape};
 ghost use Rattle.forms.specs.Forms.{shape_is, FormFits};
-ghost use Rattle.cells.specs.Cells.{Bounded};
 ghost use Rattle.callers.specs.Callers.{span_is, InImage, Held};
 ghost use Rattle.transfer.specs.Passes.{gives, is_call_site, page_address, can_be_executed, words_at, some, is_return, all_passes, return_passes, cell_passes};
-ghost use Rattle.passing.specs.Passing.{asks, seen, Ready, Passed};
+ghost use Rattle.passing.specs.Passing.{asks, seen};
 ghost use Rattle.passing.specs.Tables.{ReadyIn, PassedIn, SameLoans};
 ghost use Rattle.marks.specs.Marks.{mark_words};
 ghost use Rattle.walking.specs.Walking.{site_at, after_last, LastBelow};
 
 use callers::{Asked, Values};
+use cells::known::Facts;
 use control::Paged;
 use forms::Form;
 use marks::SITE;
 use passing::{Reached, Tables};
 
 // What the word at place k of the page passes on, if the XEC w at a point may execute it.
-fn pass_place(t: &mut Tables<'_>, p: Reached, w: Paged, v: Values, k: usize) -> bool
-    requires { ReadyIn t.old × (p.depth < 9) × InImage t.old.image.now p.pc × Bounded p.facts × (v.low + v.count ≤ 256) × (k < page_size w.page) }
-    ensures passed { PassedIn t.old p.depth (all_passes (word_count t.old.image.now) p.depth p.pc p.facts (pick (gives (page_size w.page) w.i (span_is v) k && can_be_executed t.old.image.now (page_address (page_size w.page) p.pc k)) (shape_at t.old.image.now (page_address (page_size w.page) p.pc k) ∷ []) [])) t.new result }
+fn pass_place(t: &mut Tables<'_>, p: &Reached, w: Paged, v: Values, k: usize) -> bool
+    requires { ReadyIn t.old × (p.now.depth < 9) × InImage t.old.image.now p.now.pc × (v.low + v.count ≤ 256) × (k < page_size w.page) }
+    ensures passed { PassedIn t.old p.now.depth (all_passes (word_count t.old.image.now) p.now.depth p.now.pc p.now.facts (pick (gives (page_size w.page) w.i (span_is v) k && can_be_executed t.old.image.now (page_address (page_size w.page) p.now.pc k)) (shape_at t.old.image.now (page_address (page_size w.page) p.now.pc k) ∷ []) [])) t.new result }
     ensures lent { SameLoans t.old t.new }
 {
     if !callers::gives(w, v, k) {
@@ -38,9 +38,9 @@ fn pass_place(t: &mut Tables<'_>, p: Reached, w: Paged, v: Values, k: usize) -> 
 }
 
 // What the words that an XEC at a point may execute pass on.
-fn pass_executed(t: &mut Tables<'_>, p: Reached, w: Paged) -> bool
-    requires { ReadyIn t.old × (p.depth < 9) × InImage t.old.image.now p.pc × Bounded p.facts × (w.l < 8) }
-    ensures passed { PassedIn t.old p.depth (all_passes (word_count t.old.image.now) p.depth p.pc p.facts (words_at t.old.image.now p.pc p.facts (defer_shape w))) t.new result }
+fn pass_executed(t: &mut Tables<'_>, p: &Reached, w: Paged) -> bool
+    requires { ReadyIn t.old × (p.now.depth < 9) × InImage t.old.image.now p.now.pc × (w.l < 8) }
+    ensures passed { PassedIn t.old p.now.depth (all_passes (word_count t.old.image.now) p.now.depth p.now.pc p.now.facts (words_at t.old.image.now p.now.pc p.now.facts (defer_shape w))) t.new result }
     ensures lent { SameLoans t.old t.new }
 {
     let v = callers::values_of(p.facts, w.s, w.l);
@@ -52,9 +52,9 @@ fn pass_executed(t: &mut Tables<'_>, p: Reached, w: Paged) -> bool
 }
 
 // What all the words that the cell at a point executes pass on.
-pub fn pass_words(t: &mut Tables<'_>, p: Reached, form: Form) -> bool
-    requires { ReadyIn t.old × (p.depth < 9) × InImage t.old.image.now p.pc × Bounded p.facts × FormFits form }
-    ensures passed { PassedIn t.old p.depth (all_passes (word_count t.old.image.now) p.depth p.pc p.facts (words_at t.old.image.now p.pc p.facts (shape_is form))) t.new result }
+pub fn pass_words(t: &mut Tables<'_>, p: &Reached, form: Form) -> bool
+    requires { ReadyIn t.old × (p.now.depth < 9) × InImage t.old.image.now p.now.pc × FormFits form }
+    ensures passed { PassedIn t.old p.now.depth (all_passes (word_count t.old.image.now) p.now.depth p.now.pc p.now.facts (words_at t.old.image.now p.now.pc p.now.facts (shape_is form))) t.new result }
     ensures lent { SameLoans t.old t.new }
 {
     match form {
@@ -63,7 +63,8 @@ pub fn pass_words(t: &mut Tables<'_>, p: Reached, form: Form) -> bool
     }
 }
 
-// Is the cell at an address and depth a call site? One that is not reached is told by one byte, before the rest is called.
+// Is the cell at an address and depth a call site? One that is not reached is told by one byte, before the rest is called: 13 ns
+// a word without (docs/RATES.md).
 fn is_site(image: &[u8], asked: &[u8], depth: usize, a: usize) -> bool
     requires { Held image.now asked.now × (depth < 9) × (a < word_count image.now) }
     ensures { result ≡ is_call_site image.now asked.now depth a }
@@ -100,9 +101,9 @@ fn site_below(t: &Tables<'_>, depth: usize, a: usize) -> Option<usize>
 }
 
 // RET back to a depth: to the address after every call site there, from the last on, so that a cell that changes is
-// none that is still to be asked.
-pub fn pass_back(t: &mut Tables<'_>, depth: usize, facts: [u16; 11]) -> bool
-    requires { ReadyIn t.old × (depth < 9) × Bounded facts }
+// none that is still to be asked. Each site is found below the last one: no range names them.
+pub fn pass_back(t: &mut Tables<'_>, depth: usize, facts: Facts) -> bool
+    requires { ReadyIn t.old × (depth < 9) }
     ensures passed { PassedIn t.old depth (return_passes t.old.image.now (seen t.old.asked.now t.old.table.now) depth facts) t.new result }
     ensures lent { SameLoans t.old t.new }
 {
@@ -121,9 +122,9 @@ pub fn pass_back(t: &mut Tables<'_>, depth: usize, facts: [u16; 11]) -> bool
 }
 
 // RET at a point, where the cell there executes one and the depth is not 0.
-fn pass_returns(t: &mut Tables<'_>, p: Reached, form: Form) -> bool
-    requires { ReadyIn t.old × (p.depth < 9) × InImage t.old.image.now p.pc × Bounded p.facts × FormFits form }
-    ensures passed { PassedIn t.old (p.depth - 1) (pick (ltb 0 p.depth && some is_return (words_at t.old.image.now p.pc p.facts (shape_is form))) (return_passes t.old.image.now (seen t.old.asked.now t.old.table.now) (p.depth - 1) p.facts) []) t.new result }
+fn pass_returns(t: &mut Tables<'_>, p: &Reached, form: Form) -> bool
+    requires { ReadyIn t.old × (p.now.depth < 9) × InImage t.old.image.now p.now.pc × FormFits form }
+    ensures passed { PassedIn t.old (p.now.depth - 1) (pick (ltb 0 p.now.depth && some is_return (words_at t.old.image.now p.now.pc p.now.facts (shape_is form))) (return_passes t.old.image.now (seen t.old.asked.now t.old.table.now) (p.now.depth - 1) p.now.facts) []) t.new result }
     ensures lent { SameLoans t.old t.new }
 {
     if p.depth == 0 {
@@ -135,28 +136,14 @@ fn pass_returns(t: &mut Tables<'_>, p: Reached, form: Form) -> bool
     pass_back(t, p.depth - 1, p.facts)
 }
 
-// All that a reached cell with these facts passes on.
-pub fn pass_cell(
-    image: &[u8],
-    asked: &[u8],
-    table: &mut [u8],
-    marks: &mut [u64],
-    depth: usize,
-    pc: usize,
-    facts: [u16; 11],
-) -> bool
-    requires { Ready image.now asked.now table.old marks.old × (depth < 9) × InImage image.now pc × Bounded facts }
-    ensures { Passed image.now asked.now (depth - 1) table.old marks.old (cell_passes image.now (seen asked.now table.old) depth pc facts) table.new marks.new result }
+// All that the cell at a reached point passes on.
+pub fn pass_cell(t: &mut Tables<'_>, p: &Reached) -> bool
+    requires { ReadyIn t.old × (p.now.depth < 9) × InImage t.old.image.now p.now.pc }
+    ensures passed { PassedIn t.old (p.now.depth - 1) (cell_passes t.old.image.now (seen t.old.asked.now t.old.table.now) p.now.depth p.now.pc p.now.facts) t.new result }
+    ensures lent { SameLoans t.old t.new }
 {
-    let p = Reached { depth, pc, facts };
-    let form = processor::form_at(image, pc);
-    let mut t = Tables {
-        image,
-        asked,
-        table,
-        marks,
-    };
-    let on = pass_words(&mut t, p, form);
-    let back = pass_returns(&mut t, p, form);
+    let form = processor::form_at(t.image, p.pc);
+    let on = pass_words(t, p, form);
+    let back = pass_returns(t, p, form);
     on | back
 }

@@ -3,7 +3,7 @@
 use mathlib.Core.Bool.{Bool, true, false, ◌&&◌, ◌||◌, or_comm}
 use mathlib.Core.List.{[], ◌∷◌}
 use mathlib.Core.Logic.{◌↔◌}
-use Rattle.std.specs.Prelude.{Option, Some, None}
+use Rattle.std.specs.Prelude.{Some}
 use mathlib.Core.Path.{◌≡◌, refl, ap, sym, ◌∙◌, subst}
 use Prim.Native.Nat.{ℕ, ◌+◌, ◌*◌, ◌/◌, ◌%◌, ◌<◌, ◌≤◌}
 use native.Mathlib.Omega.{arith}
@@ -16,7 +16,7 @@ use Rattle.word.specs.declared.Word.TheVariants.{Move, Add, And, Xor, XecRegiste
 use Rattle.word.specs.Word.{is_bank, is_register_source, is_register_target, is_source, is_target, is_xec_length}
 use Rattle.word.specs.Word.{opcode_of, bits3to7, bits8to10, bits11to15, bits8to15, bits3to15}
 use Rattle.word.specs.Word.{act_of, act_read, xec_read, nzt_read, xmit_read, decoded, is_valid, fields_of, reading}
-use Rattle.word.specs.Word.{word_of, low_of, bits_if, act_bits, register_bits, bank_bits, encoded, written_of, writing}
+use Rattle.word.specs.Word.{word_of, low_of, bits_if, act_bits, register_bits, bank_bits, encoded}
 use Rattle.word.specs.Word.{ActInRange, RegisterInRange, BankInRange, InRange}
 
 -- The lists of registers and banks: registers lie below the banks, and all below 32.
@@ -365,7 +365,3 @@ written_fits x w h = (writes x w h).fits
 
 pub written_in_range : (x : Word) (w : ℕ) → encoded x ≡ Some w → InRange x
 written_in_range x w h = (writes x w h).range
-
--- What is written as the definition says has the paper's numbers.
-pub written_as : {x y : Word} {r : Option ℕ} → x ≡ y → r ≡ encoded y → (r ≡ encoded x) × (written_of r ≡ writing x)
-written_as e f = (f ∙ ap encoded (sym e), ap written_of (f ∙ ap encoded (sym e)))

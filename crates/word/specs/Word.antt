@@ -23,7 +23,7 @@ is_register_target r = ltb r 8 || eqb r 9 || eqb r 15
 abbrev pub is_target : ℕ → Bool
 is_target r = is_register_target r || is_bank r
 
--- The places of the fields. Some 0-2 are the opcode; bits 3-7 are S, or D of XMIT; bits 8-10 are R or L;
+-- The places of the fields. Bits 0-2 are the opcode; bits 3-7 are S, or D of XMIT; bits 8-10 are R or L;
 -- bits 11-15 are D, or I beside an L; bits 8-15 are I; the last 13 bits are the address of JMP.
 abbrev pub opcode_of : ℕ → ℕ
 opcode_of w = w / 8192

@@ -1,6 +1,7 @@
 // The instruction word: decoded from 16 bits to a case with its fields. (`encoding` writes it again.)
 // Fields bear the manual's letters: s source, rl rotation or length, d destination, i constant, l length, a address.
-// RET's i is the low byte that it keeps and that no step looks at.
+// RET's i is the low byte that it keeps and that no step looks at. Fields are as wide as a caller may give them: `encode` refuses what
+// does not fit. Invalid is a case, as the definition `decoded` and the theorem `valid_or_invalid` name it.
 #![tactic(auto)]
 
 ghost use Rattle.std.specs.Prelude.{true, ◌≡◌, ◌<◌, ◌+◌, ◌*◌};
@@ -79,11 +80,12 @@ fn act(op: usize, s: usize, rl: usize, d: usize) -> Word
 fn decode_act(op: usize, s: usize, rl: usize, d: usize) -> Word
     ensures { result ≡ act_read op s rl d }
 {
-    if is_source(s) & is_target(d) {
-        act(op, s, rl, d)
-    } else {
-        Word::Invalid
+    if is_source(s) {
+        if is_target(d) {
+            return act(op, s, rl, d);
+        }
     }
+    Word::Invalid
 }
 
 // XEC, NZT and XMIT: short is the constant beside a bank and its length, i the one beside a register.
@@ -147,7 +149,7 @@ fn decode_low(op: usize, s: usize, low: usize) -> Word
     }
 }
 
-// Reads a word from its two bytes.
+// Reads a word from its two bytes. The opcode is three bits of them: its numbers become cases here, in `decode_low` and in `act`.
 pub fn decode_bytes(high: u8, low: u8) -> Word
     ensures { result ≡ decoded (high * 256 + low) }
 {
@@ -165,7 +167,8 @@ pub fn decode_bytes(high: u8, low: u8) -> Word
 pub fn decode(word: u16) -> Word
     ensures { (result ≡ decoded word) × (fields_of result ≡ reading word) }
 {
-    decode_bytes((word / 256) as u8, (word % 256) as u8)
+    let [high, low] = word.to_be_bytes();
+    decode_bytes(high, low)
 }
 
 // Is the word of two bytes valid?

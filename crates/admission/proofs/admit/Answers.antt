@@ -1,38 +1,44 @@
 -- `admission::admit` meets its contract: a law for each way out. Assumes nothing.
-use mathlib.Core.Path.{sym, ap, ◌∙◌}
+use mathlib.Core.Path.{refl, ap, ◌∙◌}
+use Prim.Native.Nat.{◌*◌}
 use native.Mathlib.Omega.{arith}
+use Rattle.machine.specs.Step.{word_count}
+use Rattle.facts.specs.Record.{depths}
 use Rattle.emulator.proofs.Door.{image_some, image_words}
 use Rattle.refusal.proofs.Laws.{some_refusal}
-use Rattle.admission.specs.Admission.{door_number}
-use Rattle.admission.proofs.Opening.{unswept, turned_away_lem, opened, let_through, yields, least_held}
+use Rattle.admission.specs.Admission.{with_findings, verdict_of}
+use Rattle.admission.proofs.Opening.{unswept, turned_away_lem, opened, yields, least_held}
 use Rattle.admission.proofs.admit.Goals as goal
 
 pub returns-in-Err : goal.returns-in-Err
 returns-in-Err c =
     let a = c.args in
     unswept a.image.now a.map.now a.table.now c.refused.ensures
-    (turned_away_lem a.image.now a.map.now a.table.now (sym (ap door_number c.in-Err.is) ∙ c.door.ensures) (some_refusal c.in-Err.refusal))
+    (turned_away_lem a.image.now a.map.now a.table.now c.in-Err.ensures.number (some_refusal c.in-Err.refusal))
 
 pub fill-sweeps-requires : goal.fill-sweeps-requires
 fill-sweeps-requires c =
     let a = c.args in
-    let way = opened a.image.now a.map.now a.table.now c.door.ensures (let_through c.door.result c.in_default.not-Err) in
+    let way = opened a.image.now a.map.now a.table.now c.in-Ok.ensures.number refl in
     (image_some a.image.now way.fits, image_words a.image.now way.fits, omega (arith, way.room))
 
 pub mark-first-requires : goal.mark-first-requires
 mark-first-requires c =
     let a = c.args in
-    let way = opened a.image.now a.map.now a.table.now c.door.ensures (let_through c.door.result c.in_default.not-Err) in (
+    let way = opened a.image.now a.map.now a.table.now c.in-Ok.ensures.number refl in (
       least_held a.image.now _ (λ k. (c.type_inv.image k).fits) way.fits c.fill-sweeps.ensures.0,
-      way.long,
       image_some a.image.now way.fits,
     )
 
 pub returns : goal.returns
 returns c =
     let a = c.args in
-    let way = opened a.image.now a.map.now a.table.now c.door.ensures (let_through c.door.result c.in_default.not-Err) in
-    let filled = c.fill-sweeps.ensures in (
-      yields a.image.now a.map.now a.table.now way filled.0 filled.1 c.mark-first.ensures.0 c.mark-first.ensures.1,
+    let way = opened a.image.now a.map.now a.table.now c.in-Ok.ensures.number refl in
+    let same = c.in-Ok.ensures.map in
+    let filled = c.fill-sweeps.ensures in
+    let table = c.fill-sweeps.new.table in (
+      yields a.image.now a.map.now a.table.now way filled.0 filled.1
+          (c.mark-first.ensures.0 ∙ ap (λ map. verdict_of a.image.now map table) same)
+          (c.mark-first.ensures.1 ∙ ap (λ map. with_findings a.image.now map table table 0 (depths * word_count a.image.now)) same),
       filled.2,
     )

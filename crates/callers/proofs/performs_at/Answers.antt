@@ -1,20 +1,10 @@
 -- `callers::performs_at` meets its contract. Assumes nothing.
-use Rattle.callers.proofs.Executing.{not_given, not_inside, is_executed}
+use Rattle.callers.proofs.Executing.{is_executed}
 use mathlib.Core.Path.{ap}
 use Rattle.processor.proofs.Forming.{read_shape}
 use mathlib.Core.Bool.{not}
 use Rattle.control.specs.Pages.{page_size}
 use Rattle.callers.proofs.performs_at.Goals as goal
-
-pub returns-then-not-gives : goal.returns-then-not-gives
-returns-then-not-gives c =
-    let a = c.args in
-    not_given a.image.now a.pc (page_size a.w.page) a.w.i a.v a.k a.asked c.gives.result c.gives.ensures (ap not c.if-not-gives.true)
-
-pub returns-then-image-a : goal.returns-then-image-a
-returns-then-image-a c =
-    let a = c.args in
-    not_inside a.image.now a.pc (page_size a.w.page) a.w.i a.v a.k a.asked c.requires.2 c.in_page-a.ensures c.if-image-a.true
 
 pub returns : goal.returns
 returns c =

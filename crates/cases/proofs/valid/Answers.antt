@@ -11,7 +11,6 @@ pub loop-init : goal.loop-init
 loop-init c =
     let a = c.args in (
       omega arith,
-      omega arith,
       c.within-room.ensures.0.0,
       the_rest (none_yet a.out.now _) (ap (valid_words 65536 a.seed) (sym (sub-zero c.within-room.result))),
     )
@@ -21,11 +20,10 @@ loop-preserved c =
     let at = c.loop in
     let put = c.put-at in
     let room = c.within-room.result in (
-      omega arith,
       put.ensures.1,
       omega (arith, put.auto.out),
       the_rest
-          (word_turn room (65536 - at.counter) at.x c.next-y.ensures c.next-x.ensures c.byte_of.ensures c.byte_of-in-loop.ensures (omega (arith, c.loop-test.true)) at.invariant.2 put.ensures at.invariant.3)
+          (word_turn room (65536 - at.counter) at.x c.next-y.ensures c.next-x.ensures c.byte_of.ensures c.byte_of-in-loop.ensures (omega (arith, c.loop-test.true)) at.invariant.1 put.ensures at.invariant.2)
           (ap (λ (n : ℕ). valid_words n c.next-x.result (room - put.result)) {x = 65536 - at.counter - 1} {y = 65536 - (at.counter + 1)} (omega arith)),
     )
 
@@ -33,5 +31,5 @@ pub returns : goal.returns
 returns c =
     let at = c.loop in
     let none : 65536 - at.counter ≡ 0 = omega (arith, c.loop-test.false) in
-    the_bytes (all_there (the_rest at.invariant.3 (valid_over at.x _ none)))
+    the_bytes (all_there (the_rest at.invariant.2 (valid_over at.x _ none)))
     (ap (valid_words 65536 c.args.seed) c.within-room.ensures.1)

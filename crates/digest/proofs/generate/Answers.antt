@@ -5,12 +5,10 @@ use Rattle.digest.proofs.generate.Goals as goal
 
 pub loop-byte-preserved : goal.loop-byte-preserved
 loop-byte-preserved c =
-    let at = c.loop-byte in (
-      omega arith,
-      generated_turn at.byte-items at.byte-index at.x (omega (arith, at.auto.byte-items)) c.next-x.ensures c.byte_of.ensures at.invariant.1,
-    )
+    let at = c.loop-byte in
+    generated_turn at.byte-items at.byte-index at.x (omega (arith, at.auto.byte-items)) c.next-x.ensures c.byte_of.ensures at.invariant
 
 pub returns : goal.returns
 returns c =
     let at = c.loop-byte in
-    generated_end at.byte-items at.byte-index at.x (omega (arith, at.auto.byte-items)) at.invariant.1
+    generated_end at.byte-items at.byte-index at.x (omega (arith, at.auto.byte-items)) at.invariant

@@ -1,4 +1,4 @@
-use Prim.Native.Nat.{◌-◌, ◌<◌}
+use Prim.Native.Nat.{◌-◌}
 use mathlib.Core.Path.{◌≡◌}
 use mathlib.Core.List.{◌++◌}
 use lib.ListN.{length, take}
@@ -7,4 +7,4 @@ use Rattle.digest.proofs.generate.Given as goal
 
 abbrev pub invariant-loop-byte : goal.invariant-loop-byte
 invariant-loop-byte l =
-    (l.x < 4294967296) × (take l.byte-index l.byte-items ++ generated l.x (length l.byte-items - l.byte-index) ≡ generated l.seed (length l.initial.byte-items))
+    take l.byte-index l.byte-items ++ generated l.x (length l.byte-items - l.byte-index) ≡ generated l.seed (length l.initial.byte-items)

@@ -8,6 +8,7 @@ use lib.ListN.{drop, length-drop}
 use Rattle.machine.specs.Parts.{whole}
 use Rattle.emulator.specs.Run.{pair_length, pair_count}
 use Rattle.emulator.proofs.Going.{begins, ends, ran_none, room_second, room_first, event_fits, as_long, again, stops}
+use Rattle.machine.proofs.Fetching.{near_pending}
 use Rattle.machine.proofs.Stops.{stop_nonzero, no_stop}
 use Rattle.emulator.proofs.steps.Goals as goal
 
@@ -22,7 +23,7 @@ write_addresses-requires c =
 pub step-e-requires : goal.step-e-requires
 step-e-requires c =
     let g = c.loop-i.invariant in
-    record { words = c.requires.words; long = c.requires.long; near = g.sound.formed.pc; shallow = g.sound.formed.depth }
+    record { words = c.requires.words; near = near_pending c.loop-i.q.pending c.loop-i.q.pc g.sound.formed.pc; shallow = g.sound.formed.depth }
 
 pub write_event-requires : goal.write_event-requires
 write_event-requires c =

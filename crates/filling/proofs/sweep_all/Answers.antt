@@ -9,9 +9,6 @@ loop-count-init c =
     let start = c in
     (start.requires.1, start.requires.3, way_begins start.args.image.now (λ k. (c.type_inv.image k).fits) start.requires.0 start.requires.2)
 
-pub sweep-requires : goal.sweep-requires
-sweep-requires c = (c.loop-count.invariant.0, c.loop-count.invariant.1)
-
 pub overflow_add-count : goal.overflow_add-count
 overflow_add-count c =
     let start = c in

@@ -15,7 +15,7 @@ use Rattle.findings.proofs.xec_finding.Goals.{then-gives+in_ok-executed_finding,
 pub loop-k-init : goal.loop-k-init
 loop-k-init c =
     let a = c.args in
-    begins a.image.now a.map.now a.facts a.depth a.pc (page_size a.w.page) a.w.i (source_of a.w.s 0 0 a.w.l) a.back
+    begins a.q.now.image.now a.q.now.map.now a.q.now.facts a.q.now.depth a.q.now.pc (page_size a.w.page) a.w.i (source_of a.w.s 0 0 a.w.l) a.q.now.back
 
 pub returns-in_err-executed_finding : goal.returns-in_err-executed_finding
 returns-in_err-executed_finding c = λ table asked.
@@ -24,8 +24,8 @@ returns-in_err-executed_finding c = λ table asked.
     let v = c.values_of-v in
     let g = c.gives in
     let fault = c.in_err-executed_finding.field-0.0 in
-    hand_on c.from_residual.result fault (defer_findings a.image.now a.map.now table a.depth a.pc a.facts (defer_shape a.w)) c.from_residual.ensures.1
-    (stops a.image.now a.map.now a.facts a.depth a.pc (page_size a.w.page) a.w.i (source_of a.w.s 0 0 a.w.l) a.back p.k (span_is v.result) g.result (omega (arith, c.loop-k-test.true)) v.ensures.0 g.ensures p.invariant c.if-gives.true
+    hand_on c.from_residual.result fault (defer_findings a.q.now.image.now a.q.now.map.now table a.q.now.depth a.q.now.pc a.q.now.facts (defer_shape a.w)) c.from_residual.ensures.1
+    (stops a.q.now.image.now a.q.now.map.now a.q.now.facts a.q.now.depth a.q.now.pc (page_size a.w.page) a.w.i (source_of a.w.s 0 0 a.w.l) a.q.now.back p.k (span_is v.result) g.result (omega (arith, c.loop-k-test.true)) v.ensures.0 g.ensures p.invariant c.if-gives.true
     c.in_page.result (fault_number fault) c.in_page.ensures c.in_err-executed_finding.ensures (fault_some fault) table asked)
 
 pub loop-k-preserved : goal.loop-k-preserved
@@ -36,12 +36,12 @@ loop-k-preserved c =
     let g = c.gives in
     elim c.if-gives.branch [
       | then-gives+in_ok-executed_finding w ↦
-          goes_on_lem a.image.now a.map.now a.facts a.depth a.pc (page_size a.w.page) a.w.i (source_of a.w.s 0 0 a.w.l) a.back p.k (span_is v.result) g.result (omega (arith, c.loop-k-test.true)) v.ensures.0 g.ensures p.invariant w.if-gives.true
+          goes_on_lem a.q.now.image.now a.q.now.map.now a.q.now.facts a.q.now.depth a.q.now.pc (page_size a.w.page) a.w.i (source_of a.w.s 0 0 a.w.l) a.q.now.back p.k (span_is v.result) g.result (omega (arith, c.loop-k-test.true)) v.ensures.0 g.ensures p.invariant w.if-gives.true
           w.in_page.result 0 w.in_page.ensures w.in_ok-executed_finding.ensures refl
-      | else-gives w ↦ skips a.image.now a.map.now a.facts a.depth a.pc (page_size a.w.page) a.w.i (source_of a.w.s 0 0 a.w.l) a.back p.k (span_is v.result) g.result (omega (arith, c.loop-k-test.true)) v.ensures.0 g.ensures p.invariant w.if-gives.false
+      | else-gives w ↦ skips a.q.now.image.now a.q.now.map.now a.q.now.facts a.q.now.depth a.q.now.pc (page_size a.w.page) a.w.i (source_of a.w.s 0 0 a.w.l) a.q.now.back p.k (span_is v.result) g.result (omega (arith, c.loop-k-test.true)) v.ensures.0 g.ensures p.invariant w.if-gives.false
     ]
 
 pub returns : goal.returns
 returns c =
     let a = c.args in
-    ends a.image.now a.map.now a.facts a.depth a.pc (page_size a.w.page) a.w.i (source_of a.w.s 0 0 a.w.l) a.back c.loop-k.k (omega (arith, c.loop-k-test.false)) c.loop-k.invariant
+    ends a.q.now.image.now a.q.now.map.now a.q.now.facts a.q.now.depth a.q.now.pc (page_size a.w.page) a.w.i (source_of a.w.s 0 0 a.w.l) a.q.now.back c.loop-k.k (omega (arith, c.loop-k-test.false)) c.loop-k.invariant

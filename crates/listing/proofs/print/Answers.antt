@@ -9,7 +9,7 @@ use Rattle.listing.proofs.print.Goals as goal
 pub returns-then-not-image_fits : goal.returns-then-not-image_fits
 returns-then-not-image_fits c =
     let start = c in
-    let told = c.put_door-behind.ensures in
+    let told = rw (c.from.ensures ∙ c.number.ensures) at c.put_door-behind.ensures in
     let ended = c.put.ensures in
     let whole = behind told.0 ended in (
       whole.line ∙ printed_refused start.args.input.now (sym c.image_fits.ensures ∙ c.if-not-image_fits.true),

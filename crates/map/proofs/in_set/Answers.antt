@@ -10,8 +10,9 @@ use Rattle.map.proofs.in_set.Goals as goal
 pub returns : goal.returns
 unfolding in_set
 returns c =
-    ap (λ (n : ℕ). eqb n 1)
+    rw c.from.ensures
+    (ap (λ (n : ℕ). eqb n 1)
     (and_mask
     (get_or c.args.map.now (c.args.set * 32 + c.args.address / 8) 0
     / 2 ^ (c.args.address % 8))
-    1)
+    1))

@@ -9,8 +9,8 @@ pub returns : goal.returns
 returns c =
     let map = c.args.map.now in
     let at = c.args.at in
-    let e = ap ones c.word_at.ensures ∙ ones_together map (λ k. (c.type_inv.map k).fits) at 8 in
-    (e, omega (arith, e, ones_from_le map (λ k. (c.type_inv.map k).fits) at 8))
+    let e = ap ones c.word_at.ensures ∙ ones_together map c.fits-map at 8 in
+    (e, omega (arith, e, ones_from_le map c.fits-map at 8))
 
 pub overflow_cast-result : goal.overflow_cast-result
 overflow_cast-result c = record { fits = omega (arith, (returns c).1) }

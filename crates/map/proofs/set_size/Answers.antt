@@ -6,6 +6,6 @@ use Rattle.map.proofs.set_size.Goals as goal
 pub returns : goal.returns
 returns c =
     let start = c.args in
-    set_words start.map.now (λ k. (c.type_inv.map k).fits) start.set
+    set_words start.map.now c.fits-map start.set
     c.ones_at.ensures.0 c.ones_at-2.ensures.0 c.ones_at-3.ensures.0
     c.ones_at-4.ensures.0 (omega arith) (omega arith) (omega arith) (omega arith)

@@ -1,21 +1,9 @@
 -- `passing::join_at` meets its contract. Assumes nothing.
-use native.Mathlib.Omega.{arith}
 use Rattle.callers.proofs.Points.{point_inside}
-use Rattle.passing.proofs.Passing.{small_depth}
 use Rattle.passing.proofs.Joining.{joined_held, joined_same, joined_noted}
 use mathlib.Core.Path.{ap}
 use mathlib.Core.Bool.{not}
 use Rattle.passing.proofs.join_at.Goals as goal
-
-pub overflow_mul-depth : goal.overflow_mul-depth
-overflow_mul-depth c =
-    let start = c in
-    omega (arith, small_depth start.args.image.now start.args.depth start.requires.0.words start.requires.2)
-
-pub overflow_add-depth : goal.overflow_add-depth
-overflow_add-depth c =
-    let start = c in
-    omega (arith, small_depth start.args.image.now start.args.depth start.requires.0.words start.requires.2, start.requires.3.inside)
 
 pub join_into-requires : goal.join_into-requires
 join_into-requires c =

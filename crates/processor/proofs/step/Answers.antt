@@ -7,7 +7,7 @@ use Rattle.machine.specs.Step.{step_from}
 use Rattle.machine.specs.Parts.{whole, fetch_of}
 use Rattle.forms.specs.Forms.{shape_is}
 use Rattle.processor.specs.Fetching.{Fetches}
-use Rattle.machine.proofs.Fetching.{pc_near, no_shape, outside, inside, nothing}
+use Rattle.machine.proofs.Fetching.{near_fetched, fetch_numbers, no_shape, outside, inside, nothing}
 use Rattle.processor.proofs.Forming.{read_in_range, read_shape}
 use Rattle.processor.proofs.step.Goals as goal
 
@@ -15,7 +15,7 @@ pub returns-then-image-at : goal.returns-then-image-at
 returns-then-image-at c =
     let a = c.args in
     let s = whole a.q a.values.now a.latches.now a.returns.now in
-    ap (step_from s) (c.stopped.ensures _ _ _) ∙ outside a.image.now a.map.now a.bus s c.fetch_address-at.result c.fetch_address-at.ensures c.if-image-at.true
+    ap (step_from s) (c.stopped.ensures _ _ _) ∙ outside a.image.now a.map.now a.bus s c.fetch_address-at.result (c.fetch_address-at.ensures ∙ fetch_numbers a.q.pending a.q.pc) c.if-image-at.true
 
 pub returns-in_default : goal.returns-in_default
 returns-in_default c =
@@ -23,7 +23,7 @@ returns-in_default c =
     let fetch = c.fetch_address-at in
     let none = subst (Fetches c.decode_bytes-decoded.result) c.in_default.is c.fetched_of.ensures in
     let s = whole a.q a.values.now a.latches.now a.returns.now in
-    ap (step_from s) (c.stopped-in_default.ensures _ _ _) ∙ nothing a.image.now a.map.now a.bus s fetch.result fetch.ensures c.if-image-at.false (no_shape a.image.now fetch.result c.decode_bytes-decoded.ensures none)
+    ap (step_from s) (c.stopped-in_default.ensures _ _ _) ∙ nothing a.image.now a.map.now a.bus s fetch.result (fetch.ensures ∙ fetch_numbers a.q.pending a.q.pc) c.if-image-at.false (no_shape a.image.now fetch.result c.decode_bytes-decoded.ensures none)
 
 pub form_of-requires : goal.form_of-requires
 form_of-requires c =
@@ -40,8 +40,7 @@ execute-requires c =
     let fetch = c.fetch_address-at in
     let near : fetch_of q < 8192 = rw (← fetch.ensures) (lt_of_lt_of_le c.if-image-at.false start.requires.words) in (
       record {
-        long = start.requires.long;
-        near = pc_near q.flag q.pending q.pc near start.requires.near;
+        near = near_fetched q.pending q.pc near start.requires.near;
         shallow = start.requires.shallow;
       },
       c.form_of.ensures.1,
@@ -52,4 +51,4 @@ returns c =
     let a = c.args in
     let fetch = c.fetch_address-at in
     let word = (subst (Fetches c.decode_bytes-decoded.result) c.in-Some.is c.fetched_of.ensures).0 in
-    inside a.image.now a.map.now a.bus (whole a.q a.values.now a.latches.now a.returns.now) fetch.result fetch.ensures _ (shape_is c.form_of.result) c.if-image-at.false (read_shape a.image.now fetch.result (sym word ∙ c.decode_bytes-decoded.ensures) c.form_of.ensures.0) c.execute.ensures
+    inside a.image.now a.map.now a.bus (whole a.q a.values.now a.latches.now a.returns.now) fetch.result (fetch.ensures ∙ fetch_numbers a.q.pending a.q.pc) _ (shape_is c.form_of.result) c.if-image-at.false (read_shape a.image.now fetch.result (sym word ∙ c.decode_bytes-decoded.ensures) c.form_of.ensures.0) c.execute.ensures

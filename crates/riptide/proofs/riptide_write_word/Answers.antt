@@ -9,4 +9,4 @@ pub returns-in-Some : goal.returns-in-Some
 returns-in-Some c = ap (λ (w : ℕ). w * 256) c.from.ensures ∙ sym (ap write_number c.in-Some.is) ∙ ap write_number (c.encode.ensures.0 ∙ ap encoded c.word_from.ensures)
 
 pub returns-in-None : goal.returns-in-None
-returns-in-None c = sym (ap write_number c.in-None.is) ∙ ap write_number (c.encode.ensures.0 ∙ ap encoded c.word_from.ensures)
+returns-in-None c = c.from-in-None.ensures ∙ c.number.ensures ∙ sym (ap write_number c.in-None.is) ∙ ap write_number (c.encode.ensures.0 ∙ ap encoded c.word_from.ensures)

@@ -24,6 +24,6 @@ pub returns : goal.returns
 returns c =
     let start = c in
     let a = start.args in
-    let done = passed_as (own_told a.image.now a.t.i a.t.depth a.t.pc start.requires.1 a.t.c a.changed (ap not c.if-not-changed.false) c.if-not-t.false start.requires.3) c.pass_words.ensures.passed in
+    let done = passed_as (own_told a.image.now a.t.i a.t.depth a.t.pc start.requires.1 a.t.c a.changed (ap not c.if-not-changed.false) c.if-not-t.false start.requires.3) (rw c.of.ensures at c.pass_words.ensures.passed) in
     let lent = c.pass_words.ensures.lent in
     search rules

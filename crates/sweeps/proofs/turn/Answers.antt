@@ -5,21 +5,6 @@ use Rattle.facts.specs.Record.{FineCell}
 use Rattle.sweeps.proofs.Turning.{place_of, begun_ready, own_laid, own_sited, own_hubs, one_down, turn_done}
 use Rattle.sweeps.proofs.turn.Goals as goal
 
-pub form_at-form-requires : goal.form_at-form-requires
-form_at-form-requires c =
-    let start = c in
-    (place_of start.args.image.now start.args.i start.requires.0.words start.requires.2).inside
-
-pub begin-changed-requires : goal.begin-changed-requires
-begin-changed-requires c =
-    let start = c in
-    let a = start.args in (
-      start.requires.1.sited.long,
-      place_of a.image.now a.i start.requires.0.words start.requires.2,
-      subst⁻¹ FineCell c.load-c.ensures (start.requires.0.layout.fine a.i start.requires.2),
-      record { shape = c.form_at-form.ensures.0; fits = c.form_at-form.ensures.1 },
-    )
-
 pub own_turn-on-requires : goal.own_turn-on-requires
 own_turn-on-requires c =
     let start = c in
@@ -41,8 +26,8 @@ go_back-back-requires c =
       own_sited a.image.now (λ k. (c.type_inv.image k).fits) a.table.now a.marks.now a.hubs.now a.i start.requires.0 start.requires.1 start.requires.2 e b p,
       own_hubs a.image.now (λ k. (c.type_inv.image k).fits) a.table.now a.marks.now a.hubs.now a.i start.requires.0 start.requires.1 start.requires.2 e b p,
       one_down a.image.now (λ k. (c.type_inv.image k).fits) a.table.now a.marks.now a.hubs.now a.i start.requires.0 start.requires.1 start.requires.2 e b p,
+      subst⁻¹ FineCell e (start.requires.0.layout.fine a.i start.requires.2),
       omega (arith, start.requires.2, start.requires.0.words),
-      (subst⁻¹ FineCell e (start.requires.0.layout.fine a.i start.requires.2)).bounded,
     )
 
 pub returns : goal.returns

@@ -4,36 +4,23 @@ use Rattle.callers.specs.Callers.{span_is}
 use Rattle.walking.proofs.Executing.{not_given, not_inside, executed}
 use mathlib.Core.Path.{ap}
 use mathlib.Core.Bool.{not}
-use Rattle.passing.proofs.Loans.{loans_same}
 use Rattle.walking.proofs.pass_place.Goals as goal
 
-pub returns-then-not-gives : goal.returns-then-not-gives
-returns-then-not-gives c =
+pub returns-then-not-gives-clause-passed : goal.returns-then-not-gives-clause-passed
+returns-then-not-gives-clause-passed c =
     let start = c in
     let a = start.args in
-    record {
-      passed =
-          not_given a.t.now.image.now a.t.now.asked.now a.p.depth a.p.pc a.p.facts (page_size a.w.page) a.w.i (span_is a.v) a.k c.gives.result c.gives.ensures (ap not c.if-not-gives.true) start.requires.0;
-      lent = loans_same;
-    }
+    not_given a.t.now.image.now a.t.now.asked.now a.p.now.depth a.p.now.pc a.p.now.facts (page_size a.w.page) a.w.i (span_is a.v) a.k c.gives.result c.gives.ensures (ap not c.if-not-gives.true) start.requires.0
 
-pub returns-then-t-a : goal.returns-then-t-a
-returns-then-t-a c =
+pub returns-then-t-a-clause-passed : goal.returns-then-t-a-clause-passed
+returns-then-t-a-clause-passed c =
     let start = c in
     let a = start.args in
-    record {
-      passed =
-          not_inside a.t.now.image.now a.t.now.asked.now a.p.depth a.p.pc a.p.facts (page_size a.w.page) a.w.i (span_is a.v) a.k start.requires.5 c.in_page-a.ensures c.if-t-a.true start.requires.0;
-      lent = loans_same;
-    }
+    not_inside a.t.now.image.now a.t.now.asked.now a.p.now.depth a.p.now.pc a.p.now.facts (page_size a.w.page) a.w.i (span_is a.v) a.k start.requires.4 c.in_page-a.ensures c.if-t-a.true start.requires.0
 
-pub returns : goal.returns
-returns c =
+pub returns-clause-passed : goal.returns-clause-passed
+returns-clause-passed c =
     let start = c in
     let a = start.args in
-    record {
-      passed =
-          executed a.t.now.image.now a.t.now.asked.now a.p.depth a.p.pc a.p.facts (page_size a.w.page) a.w.i (span_is a.v) a.k c.gives.result start.requires.5
-          c.gives.ensures (ap not c.if-not-gives.false) c.in_page-a.ensures c.if-t-a.false c.form_at.ensures.0 c.pass_word.ensures.passed;
-      lent = c.pass_word.ensures.lent;
-    }
+    executed a.t.now.image.now a.t.now.asked.now a.p.now.depth a.p.now.pc a.p.now.facts (page_size a.w.page) a.w.i (span_is a.v) a.k c.gives.result start.requires.4
+    c.gives.ensures (ap not c.if-not-gives.false) c.in_page-a.ensures c.if-t-a.false c.form_at.ensures.0 c.pass_word.ensures.passed

@@ -1,7 +1,7 @@
 -- JMP is what the definition reads at opcode 7; any other word is made of its opcode, bits 3-7 and low byte.
 use mathlib.Core.Path.{◌≡◌}
 use native.Mathlib.Omega.{arith}
-use Prim.Native.Nat.{◌+◌, ◌*◌, ◌/◌, ◌%◌}
+use Prim.Native.Nat.{◌+◌, ◌*◌, ◌%◌}
 use Rattle.word.specs.Word.{decoded, opcode_of, bits3to15}
 use Rattle.word.proofs.decode_bytes.Goals as goal
 
