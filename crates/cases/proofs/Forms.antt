@@ -12,20 +12,20 @@ module _ (text : List ℕ) (from room : ℕ) {letter first : ℕ} (l : letter �
   unfolding form_bytes
   of_hex h = rw (← l, ← f, h)
 
-  module _ {second count : ℕ} (s : second ≡ place_behind text first 58) (n : count ≡ decimal_at text second) where
+  module _ {count : ℕ} (n : count ≡ decimal_at text (place_behind text first 58)) where
     pub of_lcg : {seed : ℕ} → seed ≡ decimal_at text first → letter ≡ 108 → generated seed (min count room) ≡ form_bytes text from room
     unfolding form_bytes
-    of_lcg e h = rw (← l, ← f, ← s, ← n, ← e, h)
+    of_lcg e h = rw (← l, ← f, ← n, ← e, h)
 
     pub of_fill : {high low : ℕ} → high ≡ hex_byte_at text first % 256 → low ≡ hex_byte_at text (first + 2) % 256 → letter ≡ 102
         → in_turn high low (min (2 * count) room) ≡ form_bytes text from room
     unfolding form_bytes
-    of_fill e g h = rw (← l, ← f, ← s, ← n, ← e, ← g, h)
+    of_fill e g h = rw (← l, ← f, ← n, ← e, ← g, h)
 
     pub of_valid : {seed : ℕ} → seed ≡ decimal_at text first → letter ≡ 118
         → valid_words 65536 seed (min (2 * count) room) ≡ form_bytes text from room
     unfolding form_bytes
-    of_valid e h = rw (← l, ← f, ← s, ← n, ← e, h)
+    of_valid e h = rw (← l, ← f, ← n, ← e, h)
 
 module _ (text : List ℕ) (from room : ℕ) {letter : ℕ} (l : letter ≡ get_or text from 0) where
   pub of_none : (letter ≡ 104 → ⊥) → (letter ≡ 108 → ⊥) → (letter ≡ 102 → ⊥) → (letter ≡ 118 → ⊥) → [] ≡ form_bytes text from room

@@ -125,9 +125,19 @@ fn valid(seed: u32, count: usize, out: &mut [u8]) -> usize
     for _ in 0..65536usize {
         let y = digest::next(x);
         x = digest::next(y);
-        at = put(out, at, room, digest::byte_of(y), digest::byte_of(x));
+        let high = digest::byte_of(u64::from(y));
+        let low = digest::byte_of(u64::from(x));
+        at = put(out, at, room, high, low);
     }
     at
+}
+
+// The number behind a form's second colon. A form without a count does not seek it: the next colon may be far behind.
+fn count(s: &[u8], first: usize) -> usize
+    requires { first ≤ length s.now }
+    ensures { (result ≡ decimal_at s.now (place_behind s.now first 58)) × (result < 4294967296) }
+{
+    number(s, after(s, first, b':'))
 }
 
 // Expands the form at a place: hex:DIGITS, lcg:SEED:COUNT, fill:WORD:COUNT or valid:SEED:COUNT, and none for any other.
@@ -136,17 +146,16 @@ pub fn expand(s: &[u8], from: usize, out: &mut [u8]) -> usize
     ensures { Expanded (form_bytes s.now from (length out.old)) out.old out.new result }
 {
     let first = after(s, from, b':');
-    let count = number(s, after(s, first, b':'));
     match s.get(from).copied().unwrap_or(0) {
         b'h' => hex(s, first, out),
-        b'l' => lcg(number(s, first) as u32, count, out),
+        b'l' => lcg(number(s, first) as u32, count(s, first), out),
         b'f' => fill(
             pair(s, first).unwrap_or(0),
             pair(s, first + 2).unwrap_or(0),
-            2 * count,
+            2 * count(s, first),
             out,
         ),
-        b'v' => valid(number(s, first) as u32, 2 * count, out),
+        b'v' => valid(number(s, first) as u32, 2 * count(s, first), out),
         _ => 0,
     }
 }

@@ -1,10 +1,11 @@
 // Words that direct PC: XEC, NZT, CALL, RET, JMP.
 #![tactic(auto)]
 
-ghost use Rattle.std.specs.Prelude.{◌≡◌, List, ℕ, ◌<◌, ◌≤◌};
-ghost use Rattle.machine.specs.Shape.{register, constant, go, call, return};
+ghost use Rattle.std.specs.Prelude.{◌≡◌, List, ℕ, ◌<◌, ◌≤◌, ◌%◌};
+ghost use Rattle.state.specs.declared.State.{State};
+ghost use Rattle.machine.specs.Shape.{register, constant, go, branch, call, return, source_of};
 ghost use Rattle.machine.specs.Step.{in_page, word_step};
-ghost use Rattle.machine.specs.Parts.{whole, outcome, go_effect, defer_effect, Ready};
+ghost use Rattle.machine.specs.Parts.{whole, outcome, go_effect, defer_effect, IsPage, Ready};
 ghost use Rattle.control.specs.Pages.{page_size, branch_shape, defer_shape};
 
 use machine::{Effect, Event, Sequencer, Stop};
@@ -17,6 +18,13 @@ pub enum Page {
 }
 
 impl Page {
+    // The page of so many addresses: the long one, or else the short.
+    pub fn of(size: usize) -> Page
+        ensures { IsPage size → page_size result ≡ size }
+    {
+        if size == 256 { Page::Long } else { Page::Short }
+    }
+
     // Its addresses.
     pub fn size(self) -> usize
         ensures { (result ≡ page_size self) × (0 < result) × (result ≤ 256) }
@@ -35,6 +43,21 @@ pub struct Paged {
     pub l: usize,
     pub page: Page,
     pub i: u8,
+}
+
+impl Paged {
+    // The same told in numbers. Of an NZT's constant the low byte counts alone, since no page has more addresses.
+    pub fn of(s: usize, l: usize, page: usize, i: usize) -> Paged
+        ensures fields { (result.s ≡ s) × (result.l ≡ l) × (IsPage page → page_size result.page ≡ page) × (result.i ≡ i % 256) }
+        ensures branch { IsPage page → (map bus : List ℕ) (q : State) → word_step map (branch_shape result) bus q ≡ word_step map (go (source_of s 0 0 l) (branch page i)) bus q }
+    {
+        Paged {
+            s,
+            l,
+            page: Page::of(page),
+            i: (i % 256) as u8,
+        }
+    }
 }
 
 // On at another PC; nothing is pending.

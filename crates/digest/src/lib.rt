@@ -40,7 +40,7 @@ pub fn next(x: u32) -> u32
 }
 
 // The byte that a number of the generator gives.
-pub fn byte_of(x: u32) -> u8
+pub fn byte_of(x: u64) -> u8
     ensures { result ≡ number_byte x }
 {
     (x / 65536 % 256) as u8
@@ -53,7 +53,7 @@ pub fn generate(seed: u32, out: &mut [u8])
     let mut x = seed;
     for byte in out {
         x = next(x);
-        *byte = byte_of(x);
+        *byte = byte_of(u64::from(x));
     }
 }
 

@@ -1,5 +1,5 @@
 -- What a word makes of facts, as the code reads them from eleven: laws over plain numbers and lists.
-use mathlib.Core.Path.{◌≡◌, refl, ◌∙◌, ap}
+use mathlib.Core.Path.{◌≡◌, refl, ◌∙◌, ap, sym, subst}
 use mathlib.Core.List.{List}
 use Prim.Native.Nat.{ℕ, ◌<◌}
 use native.Mathlib.Omega.{arith}
@@ -28,6 +28,9 @@ module _ (a : Delivery) (fs : List ℕ) (short : a.l < 8) where
   abbrev Masked : Source → Source → Type 0
   Masked s t = masks (source_fact s fs) ≡ source_fact t fs
 
+  abbrev taken_from : Argument → ℕ
+  taken_from from = source_fact (taken_argument from a.l a.d) fs
+
   known : {x : ℕ} → x < 256 → masks x ≡ masked_into op a.l a.d x
   known {x} h = rw (ne_eqb x unknown (λ e. omega arith))
 
@@ -45,9 +48,25 @@ module _ (a : Delivery) (fs : List ℕ) (short : a.l < 8) where
       go (Number s) h = numbered s
       go (Constant i) h = known (h i refl)
 
-  -- the same of a register or bank as the code takes and masks it
+  -- the same as the code takes and masks it: a register or bank, XMIT's constant
   pub masked_number : {s places taken r : ℕ} → a.from ≡ Number s → places ≡ places_of a.l a.d → taken ≡ source_fact (source_of s places 0 a.l) fs
       → r ≡ masks taken → r ≡ source_fact (delivery_source a) fs
   masked_number {s} hs hp ht hr =
-      rw hs
-      (hr ∙ ap masks (ht ∙ ap (λ (p : ℕ). source_fact (source_of s p 0 a.l) fs) hp) ∙ numbered s)
+      hr
+      ∙ ap masks (ht ∙ ap (λ (p : ℕ). source_fact (source_of s p 0 a.l) fs) hp ∙ ap taken_from (sym hs))
+      ∙ masked_fact (λ i e. absurd (subst IsNumber (sym hs ∙ e) tt))
+    where
+      IsNumber : Argument → Type 0
+      IsNumber (Number n) = Unit
+      IsNumber (Constant i) = ⊥
+
+  pub masked_constant : {i r : ℕ} → a.from ≡ Constant i → i < 256 → r ≡ masked_into op a.l a.d i → r ≡ source_fact (delivery_source a) fs
+  masked_constant {i} hi byte hr =
+      hr
+      ∙ sym (known byte)
+      ∙ ap (λ (from : Argument). masks (taken_from from)) (sym hi)
+      ∙ masked_fact (λ j e. subst IsByte (sym hi ∙ e) byte)
+    where
+      IsByte : Argument → Type 0
+      IsByte (Number n) = Unit
+      IsByte (Constant j) = j < 256

@@ -2,9 +2,9 @@
 // which has a shape too.
 #![tactic(auto)]
 
-ghost use Rattle.std.specs.Prelude.{◌≡◌};
+ghost use Rattle.std.specs.Prelude.{◌≡◌, ◌%◌};
 ghost use Rattle.word.specs.Word.{InRange};
-ghost use Rattle.machine.specs.Shape.{shape_of};
+ghost use Rattle.machine.specs.Shape.{register, go, call, shape_of};
 ghost use Rattle.machine.specs.Parts.{operation_of, transmission_of};
 ghost use Rattle.forms.specs.Forms.{shape_is, FormFits};
 
@@ -21,6 +21,15 @@ pub enum Form {
     Call { i: u8 },
     Return,
     Invalid,
+}
+
+impl Form {
+    // A CALL of any constant: its low byte is the one that a word has.
+    pub fn call(i: usize) -> Form
+        ensures { shape_is result ≡ go (register 0 0 0) (call (i % 256)) }
+    {
+        Form::Call { i: (i % 256) as u8 }
+    }
 }
 
 // MOVE, ADD, AND, XOR.

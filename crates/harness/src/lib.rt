@@ -57,24 +57,30 @@ pub fn part_of<'b>(room: &'b mut [u8], count: usize) -> &'b mut [u8]
     &mut room[..n]
 }
 
-// The fields of a case that are left, each behind an '='; a clause sees the text from the first of them on.
+// The fields of a case that are left, each behind an '='; a clause sees the text from the first of them on. That is sought when it is
+// read: behind an input's last field the next '=' may be far away.
 #[derive(Drop)]
 pub struct Fields<'a> {
-    rest: &'a [u8],
+    before: &'a [u8],
 }
 
 impl<'a> Model for Fields<'a> {
+    ghost use Rattle.std.specs.Prelude.{List, ℕ};
+    ghost use Rattle.harness.specs.Fields.{next_field};
+
     ghost Value = { List ℕ };
 
-    ghost view = { λ f. f.rest.now };
+    ghost view = { λ f. next_field f.before.now };
 }
 
 impl<'a> Fields<'a> {
-    // Goes on to the next field.
-    fn advance(&mut self)
-        ensures { self.new ≡ next_field self.old }
+    // The text from the first field on; those behind it are left.
+    fn first(&mut self) -> &'a [u8]
+        ensures text { result.now ≡ self.old }
+        ensures rest { self.new ≡ next_field self.old }
     {
-        self.rest = &self.rest[cases::after(self.rest, 0, b'=')..];
+        self.before = &self.before[cases::after(self.before, 0, b'=')..];
+        self.before
     }
 
     // Expands a field into the room; the count of its bytes.
@@ -82,9 +88,7 @@ impl<'a> Fields<'a> {
         ensures bytes { Expanded (form_bytes self.old 0 (length room.old)) room.old room.new result }
         ensures rest { self.new ≡ next_field self.old }
     {
-        let count = cases::expand(self.rest, 0, room);
-        self.advance();
-        count
+        cases::expand(self.first(), 0, room)
     }
 
     // A field's number.
@@ -92,9 +96,7 @@ impl<'a> Fields<'a> {
         ensures number { result ≡ decimal_at self.old 0 }
         ensures rest { self.new ≡ next_field self.old }
     {
-        let n = cases::number(self.rest, 0);
-        self.advance();
-        n
+        cases::number(self.first(), 0)
     }
 
     // As much of the room as a field's number asks for.
@@ -134,9 +136,9 @@ pub fn print_title<'a>(line: &'a [u8]) -> Fields<'a>
     let name = cases::after(line, 0, b' ');
     let end = cases::after(line, name, b' ');
     io::write_all(1, &line[..end]);
-    let mut fields = Fields { rest: &line[end..] };
-    fields.advance();
-    fields
+    Fields {
+        before: &line[end..],
+    }
 }
 
 // Prints that a call was refused, by the paper's number; that number.

@@ -7,3 +7,4 @@ pub mod InRange
 pub mod Keeps
 pub mod Return
 pub mod Stops
+pub mod Numbers

@@ -3,3 +3,4 @@ pub mod Step
 pub mod Overflow
 pub mod Unseen
 pub mod Parts
+pub mod Numbers

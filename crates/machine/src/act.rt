@@ -1,8 +1,9 @@
 // What the words that deliver read of their source, and what they make of it: MOVE, ADD, AND, XOR, XMIT.
-ghost use Rattle.std.specs.Prelude.{◌≡◌, ℕ, ◌<◌};
+ghost use Rattle.std.specs.Prelude.{◌≡◌, ℕ, ◌<◌, min};
 ghost use Rattle.machine.specs.Shape.{slot_of, source_of, places_of};
 ghost use Rattle.machine.specs.Step.{value_of, result_of, may_read};
-ghost use Rattle.machine.specs.Parts.{operation_number, masked_into};
+ghost use Rattle.machine.specs.Parts.{operation_number, masked_into, delivery_source};
+ghost use Rattle.machine.specs.Numbers.{source_told};
 
 // MOVE, ADD, AND, XOR. XMIT moves its constant.
 #[derive(Clone, Copy, PartialEq, Eq)]
@@ -11,6 +12,23 @@ pub enum Operation {
     Add,
     And,
     Xor,
+}
+
+impl Operation {
+    // The operation of a number: from 3 on XOR.
+    #[tactic(auto, unfolding(crate::specs::Step::result_of))]
+    pub fn of(number: usize) -> Operation
+        ensures number { operation_number result ≡ min number 3 }
+        ensures result { (aux x : ℕ) → result_of (operation_number result) aux x ≡ result_of number aux x }
+        ensures mask { (l d x : ℕ) → masked_into (operation_number result) l d x ≡ masked_into number l d x }
+    {
+        match number {
+            0 => Operation::Move,
+            1 => Operation::Add,
+            2 => Operation::And,
+            _ => Operation::Xor,
+        }
+    }
 }
 
 // What a delivering word reads: the register or bank of a number, or XMIT's constant.
@@ -27,6 +45,25 @@ pub struct Delivery {
     pub from: Argument,
     pub l: usize,
     pub d: usize,
+}
+
+impl Delivery {
+    // A delivery told in numbers: where kind is 1 of the constant i, else of the register or bank s.
+    pub fn of(kind: usize, op: usize, s: usize, l: usize, d: usize, i: usize) -> Delivery
+        ensures fields { (operation_number result.op ≡ min op 3) × (result.l ≡ l) × (result.d ≡ d) }
+        ensures source { i < 256 → delivery_source result ≡ source_told kind op s l d i }
+    {
+        Delivery {
+            op: Operation::of(op),
+            from: if kind == 1 {
+                Argument::Constant((i % 256) as u8)
+            } else {
+                Argument::Number(s)
+            },
+            l,
+            d,
+        }
+    }
 }
 
 // The slot of a register number among the eleven values.

@@ -4,9 +4,11 @@
 
 pub mod act;
 
-ghost use Rattle.std.specs.Prelude.{◌≡◌, ℕ, List};
-ghost use Rattle.machine.specs.Step.{came_to_stop};
-ghost use Rattle.machine.specs.Parts.{whole, outcome, stop_number};
+ghost use Rattle.std.specs.Prelude.{◌≡◌, ℕ, List, eqb, Some, None};
+ghost use Rattle.choice.specs.Choice.{pick};
+ghost use Rattle.machine.specs.Step.{came_to_stop, stepped};
+ghost use Rattle.machine.specs.Parts.{whole, outcome, stop_number, fetch_of};
+ghost use Rattle.machine.specs.Numbers.{numbered, left_by};
 
 // PC, the address that an XEC chose if one is pending, depth.
 #[derive(Clone, Copy)]
@@ -63,6 +65,19 @@ pub struct Effect {
 }
 
 impl Sequencer {
+    // The sequencer of a state's numbers: the address is pending where the flag is 1.
+    pub fn of(pc: usize, flag: usize, pending: usize, depth: usize) -> Sequencer
+        ensures parts { result ≡ record { pc = pc; pending = pick (eqb flag 1) (Some pending) None; depth = depth } }
+        ensures fetch { fetch_of result ≡ pick (eqb flag 1) pending pc }
+        ensures step { (image map bus values latches returns : List ℕ) → stepped image map bus (numbered pc flag pending depth values latches returns) ≡ left_by flag pending (stepped image map bus (whole result values latches returns)) }
+    {
+        Sequencer {
+            pc,
+            pending: if flag == 1 { Some(pending) } else { None },
+            depth,
+        }
+    }
+
     // A stop changes nothing but the stop number.
     pub fn stopped(self, why: Stop) -> Effect
         ensures { (v l s : List ℕ) → outcome result v l s ≡ came_to_stop (whole self v l s) (stop_number why) }

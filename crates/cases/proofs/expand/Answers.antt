@@ -18,15 +18,14 @@ returns-in-108 c =
     let a = c.args in
     let letter : c.unwrap_or.result ≡ get_or a.s.now a.from 0 = search rules in
     the_bytes c.lcg.ensures
-    (of_lcg a.s.now a.from (length a.out.now) letter c.after-first.ensures.3 c.after.ensures.3 c.number-count.ensures.0
-    c.number.ensures.0 c.in-108.is)
+    (of_lcg a.s.now a.from (length a.out.now) letter c.after-first.ensures.3 c.count.ensures.0 c.number.ensures.0 c.in-108.is)
 
 pub returns-in-102 : goal.returns-in-102
 returns-in-102 c =
     let a = c.args in
     let letter : c.unwrap_or.result ≡ get_or a.s.now a.from 0 = search rules in
     the_bytes c.fill.ensures
-    (of_fill a.s.now a.from (length a.out.now) letter c.after-first.ensures.3 c.after.ensures.3 c.number-count.ensures.0
+    (of_fill a.s.now a.from (length a.out.now) letter c.after-first.ensures.3 c.count-in-102.ensures.0
     (kept_byte c.pair.result c.pair.ensures.value c.unwrap_or-in-102.ensures c.unwrap_or-in-102.type_inv)
     (kept_byte c.pair-in-102.result c.pair-in-102.ensures.value c.unwrap_or-in-102-2.ensures c.unwrap_or-in-102-2.type_inv) c.in-102.is)
 
@@ -35,7 +34,7 @@ returns-in-118 c =
     let a = c.args in
     let letter : c.unwrap_or.result ≡ get_or a.s.now a.from 0 = search rules in
     the_bytes c.valid.ensures
-    (of_valid a.s.now a.from (length a.out.now) letter c.after-first.ensures.3 c.after.ensures.3 c.number-count.ensures.0
+    (of_valid a.s.now a.from (length a.out.now) letter c.after-first.ensures.3 c.count-in-118.ensures.0
     c.number-in-118.ensures.0 c.in-118.is)
 
 pub returns-in_default : goal.returns-in_default

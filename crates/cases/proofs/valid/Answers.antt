@@ -23,7 +23,7 @@ loop-preserved c =
       put.ensures.1,
       omega (arith, put.auto.out),
       the_rest
-          (word_turn room (65536 - at.counter) at.x c.next-y.ensures c.next-x.ensures c.byte_of.ensures c.byte_of-in-loop.ensures (omega (arith, c.loop-test.true)) at.invariant.1 put.ensures at.invariant.2)
+          (word_turn room (65536 - at.counter) at.x c.next-y.ensures c.next-x.ensures (rw (← c.from.ensures) c.byte_of-high.ensures) (rw (← c.from-in-loop.ensures) c.byte_of-low.ensures) (omega (arith, c.loop-test.true)) at.invariant.1 put.ensures at.invariant.2)
           (ap (λ (n : ℕ). valid_words n c.next-x.result (room - put.result)) {x = 65536 - at.counter - 1} {y = 65536 - (at.counter + 1)} (omega arith)),
     )
 

@@ -6,7 +6,7 @@ use Rattle.digest.proofs.generate.Goals as goal
 pub loop-byte-preserved : goal.loop-byte-preserved
 loop-byte-preserved c =
     let at = c.loop-byte in
-    generated_turn at.byte-items at.byte-index at.x (omega (arith, at.auto.byte-items)) c.next-x.ensures c.byte_of.ensures at.invariant
+    generated_turn at.byte-items at.byte-index at.x (omega (arith, at.auto.byte-items)) c.next-x.ensures (rw (← c.from.ensures) c.byte_of.ensures) at.invariant
 
 pub returns : goal.returns
 returns c =
