@@ -2,13 +2,14 @@
 use mathlib.Core.Path.{◌≡◌, refl, sym, ap, ap₂, ◌∙◌}
 use mathlib.Core.List.{List}
 use Prim.Native.Nat.{ℕ, zero, suc, ◌+◌, ◌*◌, ◌/◌, ◌%◌, ◌^◌, ◌≤◌, ◌<◌}
-use native.Mathlib.Nat.{add_comm, add_assoc, add-suc, add-zero, mod-lt, mod-eq_of_lt, mod-one}
+use native.Mathlib.Nat.{add_comm, add_assoc, add-suc, add-zero, mod-lt, mod-eq_of_lt, mod-one, lt_of_lt_of_le}
+use native.Mathlib.Numerals.{add-one}
 use native.Mathlib.Omega.{arith}
 use lib.Arith.{digits_div, digits_mod, digits_lt}
 use lib.Count.{ones, ones_cat, ones-le}
 use lib.Dec.{eqb, lit<}
 use lib.ListN.{get_or}
-use lib.Pow.{pow_pos, pow-add, mod-pow-add}
+use lib.Pow.{pow_pos, pow_mono, pow-add, mod-pow-add}
 use Rattle.choice.specs.Choice.{pick}
 use Rattle.state.specs.State.{EachBelow}
 use Rattle.map.specs.Map.{in_set, count_below, count_of}
@@ -23,6 +24,17 @@ number_lt bytes small at zero = omega arith
 number_lt bytes small at (suc n) =
     let e : 2 ^ (8 * suc n) ≡ 256 * 2 ^ (8 * n) = ap (λ (x : ℕ). 2 ^ x) {x = 8 * suc n} {y = 8 + 8 * n} (omega arith) ∙ pow-add 2 8 (8 * n) in
     omega (arith, e, digits_lt (small (at + n)) (number_lt bytes small at n))
+
+-- one byte more, up to eight: nothing is shifted out of a word of 64 bits, and the sum fits
+pub byte_more : (bytes : List ℕ) → EachBelow 256 bytes → (at n : ℕ) {word : ℕ} → n < 8 → word ≡ number_from bytes at n
+    → (word + get_or bytes (at + n) 0 * 2 ^ (8 * n) % 2 ^ 64 ≡ number_from bytes at (n + 1))
+    × (word + get_or bytes (at + n) 0 * 2 ^ (8 * n) % 2 ^ 64 < 2 ^ 64)
+unfolding number_from
+byte_more bytes small at n {word} h e =
+    let all : number_from bytes at (suc n) < 2 ^ 64 =
+    lt_of_lt_of_le (number_lt bytes small at (suc n)) (pow_mono {i = 8 * suc n} {j = 64} (omega arith)) in
+    let kept : get_or bytes (at + n) 0 * 2 ^ (8 * n) % 2 ^ 64 ≡ get_or bytes (at + n) 0 * 2 ^ (8 * n) = mod-eq_of_lt (omega arith) in
+    (ap₂ ◌+◌ e kept ∙ ap (number_from bytes at) (sym (add-one n)), omega arith)
 
 pub ones_together : OnesTogether
 unfolding number_from ones_from ones

@@ -15,6 +15,17 @@ use Rattle.mnemonics.specs.Layout.{opcode_names, call_text, ret_text, invalid_te
 
 -- ---- the layouts
 
+-- a word that is not valid has no operand
+pub layout_invalid : (w : ℕ) → is_valid w ≡ false → [] ≡ layout_of w
+unfolding layout_of
+layout_invalid w v = rw v
+
+-- MOVE, ADD, AND, XOR, and words with a bank, have three
+pub layout_three : (w : ℕ) → is_valid w ≡ true → (opcode_of w ≡ 7 → ⊥) → {bank : Bool} → bank ≡ is_bank (bits3to7 w) → (ltb (opcode_of w) 4 || bank) ≡ true
+    → three_fields (bits3to7 w) (bits8to10 w) (bits11to15 w) ≡ layout_of w
+unfolding layout_of
+layout_three w valid other b t = rw (valid, ne_eqb (opcode_of w) 7 other, sym b, t)
+
 -- what holds of the four layouts, and of none, holds of every word's
 layout_each : (P : List Operand → Type 0) (w : ℕ) → P (one_field (bits3to15 w) 5) → P (three_fields (bits3to7 w) (bits8to10 w) (bits11to15 w))
     → P (one_field (bits8to15 w) 3) → P (two_fields (bits3to7 w) (bits8to15 w)) → P [] → P (layout_of w)

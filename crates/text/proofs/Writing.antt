@@ -2,12 +2,13 @@
 use mathlib.Core.Path.{◌≡◌, refl, sym, ◌∙◌, ap, subst}
 use mathlib.Core.List.{List, [], ◌∷◌, ◌++◌, append_assoc, append-nil}
 use Prim.Native.Nat.{ℕ, zero, suc, ◌+◌, ◌-◌, ◌*◌, ◌/◌, ◌%◌, ◌^◌, ◌≤◌, ◌<◌}
+use native.Mathlib.Numerals.{add-one}
 use native.Mathlib.Omega.{arith}
 use borrow.Author.Tests.{lt-ltb, le-ltb}
 use borrow.Rule.Slice.PartMut.{put_mid, mid_len, same_len_mid}
-use lib.ListN.{length, get_or, take, drop, length-append, length-replicate}
+use lib.ListN.{length, get_or, take, drop, set, length-append, length-set, length-replicate}
 use lib.Pow.{pow-add}
-use lib.Seq.{length-take-le, take_at, drop_at, drop-drop}
+use lib.Seq.{length-take-le, take_at, take-suc-set, drop_at, drop-drop, drop-set-lt}
 use Rattle.text.specs.Text.{decimal, octal, spaces, filled}
 use Rattle.text.specs.Parts.{Written}
 
@@ -73,6 +74,37 @@ the_same {a = a} {b = b} {i = i} {j = j} w e = subst (λ (t : List ℕ). Written
 -- no text
 pub nothing_written : (before : List ℕ) (at : ℕ) → Written before at [] before at
 nothing_written before at = record { line = sym (append-nil (take at before)); place = omega arith; beyond = refl; long = refl }
+
+-- ---- a text put byte by byte: what is there and what is left make the whole
+
+-- `rest` is left of a text that is put at a place, and `b` is the place behind what is there
+pub record Going (before : List ℕ) (at : ℕ) (text : List ℕ) (out : List ℕ) (b : ℕ) (rest : List ℕ) : Type 0 where
+  pub line : take b out ++ rest ≡ take at before ++ text
+  pub place : b + length rest ≡ at + length text
+  pub beyond : drop b out ≡ drop b before
+  pub long : length out ≡ length before
+
+pub nothing_there : (before : List ℕ) (at : ℕ) (text : List ℕ) → Going before at text before at text
+nothing_there before at text = record { line = refl; place = refl; beyond = refl; long = refl }
+
+pub one_more : {before text out rest : List ℕ} {at b : ℕ} (byte : ℕ) → b < length out → Going before at text out b (byte ∷ rest)
+    → Going before at text (set out b byte) (b + 1) rest
+one_more {before = before} {out = out} {rest = rest} {b = b} byte below g =
+    record {
+      line = rw (add-one b, take-suc-set out b byte, append_assoc) g.line;
+      place = omega (arith, g.place);
+      beyond = drop-set-lt (b + 1) out b byte (omega arith) ∙ further out before b 1 g.beyond;
+      long = length-set out b byte ∙ g.long;
+    }
+
+pub all_there : {before text out : List ℕ} {at b : ℕ} → Going before at text out b [] → Written before at text out b
+all_there {out = out} {b = b} g =
+    record { line = sym (append-nil (take b out)) ∙ g.line; place = omega (arith, g.place); beyond = g.beyond; long = g.long }
+
+-- a byte that is what the rest begins with
+pub goes_on_lem : {before text out rest next : List ℕ} {at b byte : ℕ} → b < length out → Going before at text out b rest → rest ≡ byte ∷ next
+    → Going before at text (set out b byte) (b + 1) next
+goes_on_lem {before} {text} {out} {at = at} {b = b} {byte = byte} below g e = one_more byte below (subst (Going before at text out b) e g)
 
 -- ---- the digits of a number
 
