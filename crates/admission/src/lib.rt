@@ -84,9 +84,11 @@ fn mark(image: &[u8], map: &[u8; map::LENGTH], table: &mut [u8]) -> Option<Failu
 {
     let words = image.len() / 2;
     let mut first = None;
-    for i in 0..facts::DEPTHS * words {
-        let found = mark_cell(image, map, table, i / words, i % words);
-        first = keep_lower(first, found);
+    for depth in 0..facts::DEPTHS {
+        for address in 0..words {
+            let found = mark_cell(image, map, table, depth, address);
+            first = keep_lower(first, found);
+        }
     }
     first
 }
