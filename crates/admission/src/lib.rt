@@ -122,6 +122,7 @@ fn refused(refusal: Refusal) -> Answered
 
 // Reads an image under a map, and fills the table of facts, whatever it held. Answers admitted, or the lowest finding, which
 // Lowest.antt tells, and counts the sweeps; or a refusal, 11, 12 or 13, and then no byte changes and the count is 0.
+#[tactic(auto, using(crate::proofs::Opening::yields))]
 pub fn admit(image: &[u8], map: &[u8], table: &mut [u8]) -> Answered
     ensures { (resulting (admit_told result.answer) result.sweeps table.new ≡ admit_result image.now map.now table.old) × (result.sweeps ≤ sweep_bound image.now) }
 {
