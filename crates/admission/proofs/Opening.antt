@@ -67,14 +67,16 @@ module _ (image map table : List ℕ) where
     unfolding admit_result
     let_in_lem = rw (o.fits, eq-eqb (length map) map_length o.long, eq-eqb (length table) (table_length image) o.room)
 
-    -- what the code makes of the table: filled, and then with its findings
-    pub yields : {filled after : List ℕ} {answer : AdmitAnswer} {sweeps : ℕ} → filled ≡ least_table image → sweeps ≡ sweeps_of image
-        → answer ≡ verdict_of image map filled → after ≡ with_findings image map filled filled 0 (depths * word_count image)
-        → resulting answer sweeps after ≡ admit_result image map table
-    unfolding filled_table
-    yields e s v w =
-        (λ k. resulting ((v ∙ ap (verdict_of image map) e) k) (s k) ((w ∙ ap (λ (t : List ℕ). with_findings image map t t 0 (depths * word_count image)) e) k))
-        ∙ sym let_in_lem
+-- what the code makes of the table, under the map that the door gives: filled, and then with its findings. The definition comes
+-- first, so that a tactic finds the law by it.
+pub yields : (image map table given filled after : List ℕ) (answer : AdmitAnswer) (sweeps : ℕ) → 0 ≡ first_no (admit_questions image map table) → given ≡ map
+    → filled ≡ least_table image → sweeps ≡ sweeps_of image
+    → answer ≡ verdict_of image given filled → after ≡ with_findings image given filled filled 0 (depths * word_count image)
+    → admit_result image map table ≡ resulting answer sweeps after
+unfolding filled_table
+yields image map table given filled after answer sweeps n m e s v w =
+    let_in_lem image map table (opened image map table n refl)
+    ∙ (λ k. resulting (sym (v ∙ λ j. verdict_of image (m j) (e j)) k) (sym s k) (sym (w ∙ λ j. with_findings image (m j) (e j) (e j) 0 (depths * word_count image)) k))
 
 -- the filled table is one that a loop over its cells can read
 pub least_held : (image filled : List ℕ) → ((k : ℕ) → get_or image k 0 < 256) → image_fits image ≡ true → filled ≡ least_table image → Held image filled

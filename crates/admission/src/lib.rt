@@ -84,9 +84,11 @@ fn mark(image: &[u8], map: &[u8; map::LENGTH], table: &mut [u8]) -> Option<Failu
 {
     let words = image.len() / 2;
     let mut first = None;
-    for i in 0..facts::DEPTHS * words {
-        let found = mark_cell(image, map, table, i / words, i % words);
-        first = keep_lower(first, found);
+    for depth in 0..facts::DEPTHS {
+        for address in 0..words {
+            let found = mark_cell(image, map, table, depth, address);
+            first = keep_lower(first, found);
+        }
     }
     first
 }
@@ -120,6 +122,7 @@ fn refused(refusal: Refusal) -> Answered
 
 // Reads an image under a map, and fills the table of facts, whatever it held. Answers admitted, or the lowest finding, which
 // Lowest.antt tells, and counts the sweeps; or a refusal, 11, 12 or 13, and then no byte changes and the count is 0.
+#[tactic(auto, using(crate::proofs::Opening::yields))]
 pub fn admit(image: &[u8], map: &[u8], table: &mut [u8]) -> Answered
     ensures { (resulting (admit_told result.answer) result.sweeps table.new ≡ admit_result image.now map.now table.old) × (result.sweeps ≤ sweep_bound image.now) }
 {

@@ -1,13 +1,9 @@
 -- `admission::admit` meets its contract: a law for each way out. Assumes nothing.
-use mathlib.Core.Path.{refl, ap, ◌∙◌}
-use Prim.Native.Nat.{◌*◌}
+use mathlib.Core.Path.{refl}
 use native.Mathlib.Omega.{arith}
-use Rattle.machine.specs.Step.{word_count}
-use Rattle.facts.specs.Record.{depths}
 use Rattle.emulator.proofs.Door.{image_some, image_words}
 use Rattle.refusal.proofs.Laws.{some_refusal}
-use Rattle.admission.specs.Admission.{with_findings, verdict_of}
-use Rattle.admission.proofs.Opening.{unswept, turned_away_lem, opened, yields, least_held}
+use Rattle.admission.proofs.Opening.{unswept, turned_away_lem, opened, least_held}
 use Rattle.admission.proofs.admit.Goals as goal
 
 pub returns-in-Err : goal.returns-in-Err
@@ -28,17 +24,4 @@ mark-first-requires c =
     let way = opened a.image.now a.map.now a.table.now c.in-Ok.ensures.number refl in (
       least_held a.image.now _ (λ k. (c.type_inv.image k).fits) way.fits c.fill-sweeps.ensures.0,
       image_some a.image.now way.fits,
-    )
-
-pub returns : goal.returns
-returns c =
-    let a = c.args in
-    let way = opened a.image.now a.map.now a.table.now c.in-Ok.ensures.number refl in
-    let same = c.in-Ok.ensures.map in
-    let filled = c.fill-sweeps.ensures in
-    let table = c.fill-sweeps.new.table in (
-      yields a.image.now a.map.now a.table.now way filled.0 filled.1
-          (c.mark-first.ensures.0 ∙ ap (λ map. verdict_of a.image.now map table) same)
-          (c.mark-first.ensures.1 ∙ ap (λ map. with_findings a.image.now map table table 0 (depths * word_count a.image.now)) same),
-      filled.2,
     )

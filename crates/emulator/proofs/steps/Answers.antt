@@ -1,6 +1,6 @@
 -- `emulator::steps` meets its contract. The invariant: the steps so far and the run over what is left are the whole run.
 -- Assumes nothing.
-use mathlib.Core.Path.{◌≡◌, sym, ap, ◌∙◌}
+use mathlib.Core.Path.{◌≡◌, ap, ◌∙◌}
 use Rattle.machine.specs.Parts.{event_stop}
 use native.Mathlib.Omega.{arith}
 use Prim.Native.Nat.{◌*◌}
@@ -47,7 +47,7 @@ returns-in-Stopped c =
     stops p.q p.values p.latches p.returns c.requires p.invariant c.loop-i-test.true c.write_addresses.ensures
     c.step-e.result _ _ _ (λ k. (c.type_inv.image k).fits) (λ k. (c.type_inv.recording k).fits) c.step-e.ensures
     c.write_event.ensures
-    (told ∙ sym (ap event_stop c.in-Stopped.is)) (λ z. stop_nonzero c.in-Stopped.why (sym told ∙ z))
+    (omega (arith, told, ap event_stop c.in-Stopped.is)) (λ z. stop_nonzero c.in-Stopped.why (omega (arith, told, z)))
 
 pub loop-i-preserved : goal.loop-i-preserved
 loop-i-preserved c =
