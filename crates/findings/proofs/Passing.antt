@@ -7,7 +7,7 @@ use native.Mathlib.Omega.{arith}
 use native.Mathlib.Nat.{mod-eq_of_lt}
 use native.Mathlib.Numerals.{add-one}
 use lib.Dec.{ltb, eqb}
-use borrow.Author.Tests.{lt-ltb, le-ltb, ne_eqb, not-true, not-false}
+use borrow.Author.Tests.{lt-ltb, le-ltb, ne_eqb}
 use Rattle.choice.specs.Choice.{pick, Question, ask, first_no}
 use Rattle.machine.specs.Shape.{Source, Shape, go, defer, invalid}
 use Rattle.machine.specs.Step.{word_count, shape_at, in_page}
@@ -175,14 +175,15 @@ pub asked_below_lem : (image table : List ℕ) (depth d : ℕ) (back : Bool) →
     → back ≡ all_below (word_count image) (word_count image) (is_call_site image table (depth - 1))
 asked_below_lem image table depth d back e z = e ∙ ap (λ (n : ℕ). all_below (word_count image) (word_count image) (is_call_site image table n)) z
 
-module _ (image map table : List ℕ) (depth pc : ℕ) (h : pc < word_count image) (c : Cell) (e : c ≡ cell_at table (point_at (word_count image) depth pc)) where
-  pub cell_unreached : not c.reached ≡ true → 0 ≡ finding_at image map table (point_at (word_count image) depth pc)
+module _ (image map table : List ℕ) (depth pc : ℕ) where
+  pub cell_unreached : (cell_at table (point_at (word_count image) depth pc)).reached ≡ false → 0 ≡ finding_at image map table (point_at (word_count image) depth pc)
   unfolding finding_at
-  cell_unreached n = rw (← e, not-true c.reached n)
+  cell_unreached n = rw n
 
-  pub cell_told : (r : ℕ) → not c.reached ≡ false → Tells r (cell_questions image map table depth pc c.facts)
+  pub cell_told : pc < word_count image → (c : Cell) → c ≡ cell_at table (point_at (word_count image) depth pc) → (r : ℕ)
+      → (cell_at table (point_at (word_count image) depth pc)).reached ≡ true → Tells r (cell_questions image map table depth pc c.facts)
       → r ≡ finding_at image map table (point_at (word_count image) depth pc)
   unfolding finding_at
-  cell_told r y t =
-      rw (← e, not-false c.reached y, point_depth (word_count image) depth pc h, point_address (word_count image) depth pc h)
+  cell_told h c e r y t =
+      rw (y, ← e, point_depth (word_count image) depth pc h, point_address (word_count image) depth pc h)
       (sym (tells_first r (cell_questions image map table depth pc c.facts) t))

@@ -295,10 +295,11 @@ pub fn cell_finding<'a>(
     requires { Held image.now table.now × (depth < 9) × (pc < word_count image.now) }
     ensures { finding_number result ≡ finding_at image.now map.now table.now (point_at (word_count image.now) depth pc) }
 {
-    let c = cells::load(table, depth * (image.len() / 2) + pc);
-    if !c.reached {
+    let i = depth * (image.len() / 2) + pc;
+    if !cells::reached(table, i) {
         return Ok(());
     }
+    let c = cells::load(table, i);
     let Some(word) = processor::fetched_of(processor::word_at(image, pc)) else {
         return Err(Fault::Stop(Stop::Invalid));
     };
