@@ -1,7 +1,8 @@
 // Words that direct PC: XEC, NZT, CALL, RET, JMP.
 #![tactic(auto)]
 
-ghost use Rattle.std.specs.Prelude.{◌≡◌, List, ℕ, ◌<◌, ◌≤◌, ◌%◌};
+ghost use Rattle.std.specs.Prelude.{◌≡◌, List, ℕ, ◌<◌, ◌≤◌, ◌%◌, eqb};
+ghost use Rattle.choice.specs.Choice.{pick};
 ghost use Rattle.state.specs.declared.State.{State};
 ghost use Rattle.machine.specs.Shape.{register, constant, go, branch, call, return, source_of};
 ghost use Rattle.machine.specs.Step.{in_page, word_step};
@@ -20,7 +21,7 @@ pub enum Page {
 impl Page {
     // The page of so many addresses: the long one, or else the short.
     pub fn of(size: usize) -> Page
-        ensures { IsPage size → page_size result ≡ size }
+        ensures { (page_size result ≡ pick (eqb size 256) 256 32) × (IsPage size → page_size result ≡ size) }
     {
         if size == 256 { Page::Long } else { Page::Short }
     }
@@ -48,7 +49,7 @@ pub struct Paged {
 impl Paged {
     // The same told in numbers. Of an NZT's constant the low byte counts alone, since no page has more addresses.
     pub fn of(s: usize, l: usize, page: usize, i: usize) -> Paged
-        ensures fields { (result.s ≡ s) × (result.l ≡ l) × (IsPage page → page_size result.page ≡ page) × (result.i ≡ i % 256) }
+        ensures fields { (result.s ≡ s) × (result.l ≡ l) × (page_size result.page ≡ pick (eqb page 256) 256 32) × (result.i ≡ i % 256) }
         ensures branch { IsPage page → (map bus : List ℕ) (q : State) → word_step map (branch_shape result) bus q ≡ word_step map (go (source_of s 0 0 l) (branch page i)) bus q }
     {
         Paged {

@@ -1,5 +1,5 @@
 -- A step from plain numbers is that of their sequencer. Assumes nothing.
-use Rattle.std.specs.Prelude.{Option, Some, None}
+use Rattle.std.specs.Prelude.{Some, None}
 use mathlib.Core.Bool.{Bool, true, false}
 use mathlib.Core.List.{List, [], ◌∷◌}
 use mathlib.Core.Path.{◌≡◌, refl, ap, ◌∙◌}
@@ -12,7 +12,7 @@ use Rattle.state.specs.declared.State.{State}
 use Rattle.machine.specs.Shape.{Shape, act, go, invalid, Source, Control, jump, branch, defer, call, return}
 use Rattle.machine.specs.Step.{Outcome, Step, word_count, shape_at, value_of, result_of, act_state, go_state, may_read, may_write, may_choose, may_call, may_return}
 use Rattle.machine.specs.Step.{came_to_stop, word_step, stepped}
-use Rattle.machine.specs.Parts.{flag_of, pending_of, whole}
+use Rattle.machine.specs.Parts.{whole}
 use Rattle.machine.specs.Numbers.{numbered, left_by}
 
 module _ (image map bus : List ℕ) (pc flag pending depth : ℕ) (values latches returns : List ℕ) where

@@ -1,5 +1,5 @@
 // What the words that deliver read of their source, and what they make of it: MOVE, ADD, AND, XOR, XMIT.
-ghost use Rattle.std.specs.Prelude.{◌≡◌, ℕ, ◌<◌, min};
+ghost use Rattle.std.specs.Prelude.{◌≡◌, ℕ, ◌<◌, ◌%◌, min};
 ghost use Rattle.machine.specs.Shape.{slot_of, source_of, places_of};
 ghost use Rattle.machine.specs.Step.{value_of, result_of, may_read};
 ghost use Rattle.machine.specs.Parts.{operation_number, masked_into, delivery_source};
@@ -51,7 +51,8 @@ impl Delivery {
     // A delivery told in numbers: where kind is 1 of the constant i, else of the register or bank s.
     pub fn of(kind: usize, op: usize, s: usize, l: usize, d: usize, i: usize) -> Delivery
         ensures fields { (operation_number result.op ≡ min op 3) × (result.l ≡ l) × (result.d ≡ d) }
-        ensures source { i < 256 → delivery_source result ≡ source_told kind op s l d i }
+        ensures source { delivery_source result ≡ source_told kind op s l d (i % 256) }
+        ensures byte { i < 256 → delivery_source result ≡ source_told kind op s l d i }
     {
         Delivery {
             op: Operation::of(op),
